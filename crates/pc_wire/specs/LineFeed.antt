@@ -1,6 +1,7 @@
 -- What a line feed holds, and how bytes change it.
 use Rattle.std.specs.Prelude.{◌≡◌, ℕ, ◌+◌, ◌<◌, Bool, true, false, List, [], ◌∷◌, ◌++◌, length, take}
-use Rattle.pc_wire.specs.Lines.{has_feed, before_feed, up_to_feed, without_return}
+use Rattle.std.specs.Io.BufRead.{take_through}
+use Rattle.pc_wire.specs.Lines.{has_feed, before_feed, without_return}
 
 pub record FeedState : Type 0 where
   -- the most bytes of a line
@@ -18,7 +19,7 @@ fed limit bytes =
 -- a call of `feed` takes so many bytes of the piece: none where a whole line waits, else those up to and with the first LF
 pub record Feeds (old new : FeedState) (piece : List ℕ) (count : ℕ) : Type 0 where
   pub waits : old.is_whole ≡ true → (count ≡ 0) × (new ≡ old)
-  pub takes : old.is_whole ≡ false → (count ≡ length (up_to_feed piece)) × (new ≡ record { limit = old.limit; text = take (old.limit + 2) (old.text ++ before_feed piece); is_whole = has_feed piece })
+  pub takes : old.is_whole ≡ false → (count ≡ length (take_through 10 piece)) × (new ≡ record { limit = old.limit; text = take (old.limit + 2) (old.text ++ before_feed piece); is_whole = has_feed piece })
 
 -- calls of `feed` with these pieces, one after another
 abbrev pub FeedsAll : FeedState → FeedState → List (List ℕ) → Type 0

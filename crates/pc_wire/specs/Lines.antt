@@ -30,11 +30,6 @@ abbrev pub before_feed : List ℕ → List ℕ
 before_feed [] = []
 before_feed (byte ∷ bytes) = if is_feed byte then [] else byte ∷ before_feed bytes
 
--- the bytes up to and with the first LF, or all where there is none
-abbrev pub up_to_feed : List ℕ → List ℕ
-up_to_feed [] = []
-up_to_feed (byte ∷ bytes) = byte ∷ (if is_feed byte then [] else up_to_feed bytes)
-
 -- the bytes without the one CR at their end, if there is one
 abbrev pub without_return : List ℕ → List ℕ
 without_return [] = []
