@@ -1,0 +1,4 @@
+pub mod Operation
+pub mod Argument
+pub mod Request
+pub mod Fault
