@@ -1,8 +1,9 @@
 -- Feeds: what is kept of the bytes that came, and what is shown of it.
-use Rattle.std.proofs.Common.{◌≡◌, ℕ, ◌+◌, ◌-◌, ◌<◌, ◌≤◌, ◌↔◌, Bool, true, false, cond, eqb, ◌||◌, ◌⊎◌, inl, inr, List, [], ◌∷◌, ◌++◌, length, take, drop, sym, refl, ap, subst, ◌∙◌, arith, append_assoc, length-append, length-take, min, MatchBool}
-use Rattle.std.specs.List.{concat}
+use Rattle.std.proofs.Common.{◌≡◌, ℕ, ◌+◌, ◌-◌, ◌<◌, ◌≤◌, ◌↔◌, Bool, true, false, cond, not, eqb, ◌||◌, ◌⊎◌, inl, inr, List, [], ◌∷◌, ◌++◌, length, take, drop, sym, refl, ap, subst, ◌∙◌, arith, append_assoc, length-append, length-take, one-add, min, MatchBool}
+use Rattle.std.specs.List.{concat, position_or_len}
 use Rattle.std.specs.Io.BufRead.{take_through}
-use Rattle.std.proofs.lemmas.List.{append-nil, take_all, take-take, take-append-le, take-append-drop, length-take-le}
+use Rattle.std.proofs.lemmas.List.{append-nil, take_all, take-take, take-append-le, take-append-drop, take_min, length-take-le}
+use Rattle.std.proofs.Math.Seq.{take-append-add}
 use Rattle.std.proofs.lemmas.Bool.{or_parts, or_from, cases_Bool, cases_lt, false≢true, eqb-true, ne_eqb, MatchBool-at_true, MatchBool-at_false}
 use Rattle.pc_wire.specs.Lines.{is_feed, has_feed, lines_of, before_feed, without_return}
 use Rattle.pc_wire.specs.LineFeed.{FeedState, fed, Feeds, FeedsAll, IsOver}
@@ -10,6 +11,7 @@ use Rattle.pc_wire.specs.Next.{ShowsLine, ShowsNext, ShowsLast}
 use Rattle.pc_wire.specs.declared.line_feed.Next.{Next}
 use Rattle.pc_wire.specs.declared.line_feed.Next.TheVariants.{Line, More, TooLong}
 use Rattle.pc_wire.proofs.LineLemmas.{has_feed-append, open-append, lines_of-feed, return_or_none, before_feed-feed}
+use Rattle.pc_wire.proofs.PlaceLemmas.{place-within}
 
 pub before_feed-append : (since piece : List ℕ) → has_feed since ≡ false → before_feed (since ++ piece) ≡ since ++ before_feed piece
 before_feed-append [] piece h = refl
@@ -203,3 +205,55 @@ over_stays limit since e =
       λ over more. omega (arith, (past_cut limit since).0 over.1, without_return-append since more),
       λ always. (e, (past_cut limit since).1 (omega (arith, always [], ap (λ all. length (without_return all)) (append-nil since)))),
     )
+
+-- the place of the LF, or the length where there is none
+pub before_feed-is : (piece : List ℕ) → before_feed piece ≡ take (position_or_len is_feed piece) piece
+before_feed-is [] = refl
+before_feed-is (b ∷ bs) = by_test (is_feed b) (before_feed-is bs)
+  where
+    by_test : (t : Bool) → before_feed bs ≡ take (position_or_len is_feed bs) bs → cond t [] (b ∷ before_feed bs) ≡ take (cond (not t) (1 + position_or_len is_feed bs) 0) (b ∷ bs)
+    by_test true rest = refl
+    by_test false rest = rw (one-add (position_or_len is_feed bs)) (ap (λ bytes. b ∷ bytes) rest)
+
+place-open : (piece : List ℕ) → position_or_len is_feed piece ≡ length piece → has_feed piece ≡ false
+place-open [] e = refl
+place-open (b ∷ bs) e = by_test (is_feed b) e (place-open bs)
+  where
+    by_test : (t : Bool) → cond (not t) (1 + position_or_len is_feed bs) 0 ≡ length (b ∷ bs) → (position_or_len is_feed bs ≡ length bs → has_feed bs ≡ false) → (t || has_feed bs) ≡ false
+    by_test true e rest = absurd (omega arith)
+    by_test false e rest = rest (omega arith)
+
+open-place : (piece : List ℕ) → has_feed piece ≡ false → position_or_len is_feed piece ≡ length piece
+open-place [] h = refl
+open-place (b ∷ bs) h =
+    let p = or_parts (is_feed b) (has_feed bs) h in rw p.0 (omega (arith, open-place bs p.1))
+
+-- what `feed` does, told by the place of the LF
+pub Feeds-place : (old new : FeedState) (piece : List ℕ) (count place : ℕ) (is_whole : Bool) → old.is_whole ≡ false → place ≡ position_or_len is_feed piece → new ≡ record { limit = old.limit; text = take (old.limit + 2) (old.text ++ take place piece); is_whole = is_whole } → is_whole ≡ has_feed piece → count ≡ length (take_through 10 piece) → Feeds old new piece count
+Feeds-place old new piece count place is_whole still at is has taken = record {
+  waits = λ whole. absurd (false≢true (sym still ∙ whole));
+  takes = λ _. (taken, is ∙ rw (has, at, before_feed-is piece) refl);
+}
+
+-- no LF: the whole piece is taken
+pub Feeds-all : (old new : FeedState) (piece : List ℕ) (place : ℕ) → old.is_whole ≡ false → place ≡ position_or_len is_feed piece → place ≡ length piece → new ≡ record old { text = take (old.limit + 2) (old.text ++ take place piece) } → Feeds old new piece place
+Feeds-all old new piece place still at all is =
+    let none : has_feed piece ≡ false = place-open piece (sym at ∙ all) in
+    Feeds-place old new piece place place old.is_whole still at is (still ∙ sym none) (all ∙ sym (ap length (take_through-open piece none)))
+
+-- an LF: it's taken too
+pub Feeds-whole : (old new : FeedState) (piece : List ℕ) (place : ℕ) → old.is_whole ≡ false → place ≡ position_or_len is_feed piece → (place ≡ length piece → ⊥) → new ≡ record { limit = old.limit; text = take (old.limit + 2) (old.text ++ take place piece); is_whole = true } → Feeds old new piece (place + 1)
+Feeds-whole old new piece place still at some is = elim (cases_Bool (has_feed piece)) [
+    inl has ↦ Feeds-place old new piece (place + 1) place true still at is (sym has) (omega (arith, at, ap length (take_through-feed piece has), length-append (before_feed piece) (10 ∷ []), ap length (before_feed-is piece), length-take-le (position_or_len is_feed piece) piece (place-within is_feed piece)))
+  | inr none ↦ absurd (some (at ∙ open-place piece none))
+  ]
+
+-- bytes are kept as far as there is room
+pub kept_is : (n : ℕ) (text bytes : List ℕ) → length text ≤ n → text ++ take (min (n - length text) (length bytes)) bytes ≡ take n (text ++ bytes)
+kept_is n text bytes fits =
+    let room : length text + (n - length text) ≡ n = omega arith in
+    ap (λ front. text ++ front) (take_min (n - length text) bytes) ∙ sym (take-append-add text bytes (n - length text)) ∙ ap (λ m. take m (text ++ bytes)) room
+
+pub open-take : (n : ℕ) (bytes : List ℕ) → has_feed bytes ≡ false → has_feed (take n bytes) ≡ false
+open-take n bytes h =
+    (or_parts (has_feed (take n bytes)) (has_feed (drop n bytes)) (sym (has_feed-append (take n bytes) (drop n bytes)) ∙ ap has_feed (take-append-drop n bytes) ∙ h)).0

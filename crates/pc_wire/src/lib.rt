@@ -3,6 +3,7 @@
 
 pub mod laws;
 mod line_feed;
+mod places;
 mod words;
 
 pub use line_feed::{LineFeed, Next};
