@@ -19,7 +19,8 @@ pub fn next_word(text: &[u8]) -> Option<(&[u8], &[u8])>
 
 /// The text without the spaces that it begins with.
 pub fn without_spaces(text: &[u8]) -> &[u8]
-    ensures { result.now ≡ spaceless text.now }
+    ensures value { result.now ≡ spaceless text.now }
+    ensures words { words_of result.now ≡ words_of text.now }
 {
     &text[leading_spaces(text)..]
 }

@@ -1,0 +1,261 @@
+-- What a replay keeps from line to line, and what it comes to at each end.
+use Rattle.std.proofs.Common.{◌≡◌, ℕ, ◌+◌, ◌-◌, ◌^◌, ◌≤◌, ◌<◌, Bool, true, false, IsTrue, is_some, List, [], ◌∷◌, ◌++◌, length, take, drop, Option, Some, None, IfSome, MatchOption, ◌⊎◌, inl, inr, refl, sym, ap, ◌∙◌, subst, arith, append-nil, append_assoc, length-append}
+use Rattle.std.proofs.lemmas.List.{take-append-drop, take_all}
+use Rattle.std.proofs.lemmas.List.Concat.{flat_map-append}
+use Rattle.std.specs.Io.KnownBytes.{Appends, prepend_known}
+use Rattle.std.proofs.KnownBytes.{Appends-nil, Appends-trans}
+use Rattle.pc_base.specs.Stream.{AppendsFront, Rose}
+use Rattle.pc_wire.specs.Lines.{lines_of}
+use Rattle.pc_wire.specs.Reader.{IfTold}
+use Rattle.pc_world.specs.Account.{Account}
+use Rattle.pc_world.specs.Runs.{Plays, Chain, Begins, GoesOn, IsRun, IsOfForm, IsRefused, IsFront, lines_in, text_of, ended, most_lines}
+use Rattle.pc_world.specs.Replay.{Stops, Finishes, Writes, Ends, Completes, IsComplete}
+use Rattle.pc_world.specs.declared.replaying.ReplayEnd.{ReplayEnd}
+use Rattle.pc_world.specs.declared.replaying.ReplayEnd.TheVariants.{Done, Refused, ReadFault, WriteFault, Memory}
+
+text_of-append : (lines more : List (List ℕ)) → text_of (lines ++ more) ≡ text_of lines ++ text_of more
+text_of-append lines more = flat_map-append ended lines more
+
+lines_in-push : (events : List (List (List ℕ))) (event : List (List ℕ)) → lines_in (events ++ event ∷ []) ≡ lines_in events ++ event
+lines_in-push [] event = append-nil event
+lines_in-push (first ∷ others) event =
+    ap (λ (lines : List (List ℕ)). first ++ lines) (lines_in-push others event) ∙ sym (append_assoc first (lines_in others) event)
+
+-- a chain with one more event behind
+Chain-push : (old : List Account) (events : List (List (List ℕ))) (printed : List (List ℕ)) (middle : List Account) (event first : List (List ℕ)) (new : List Account)
+    → Chain old events printed middle → Plays middle event first new → Chain old (events ++ event ∷ []) (printed ++ first) new
+Chain-push old [] printed middle event first new chain plays =
+    let P : List (List ℕ) → Type 0 = λ lines. Chain old (event ∷ []) (lines ++ first) new in
+    let Q : List Account → Type 0 = λ world. Plays world event first new in
+    subst P (sym chain.0) (first, (new, ([], (sym (append-nil first), subst Q chain.1 plays, (refl, refl)))))
+Chain-push old (earlier ∷ events) printed middle event first new chain plays =
+    let shown = chain.0 in
+    let next = chain.1.0 in
+    let others = chain.1.1.0 in
+    let rest = chain.1.1.1 in
+    (shown, (next, (others ++ first, (ap (λ (lines : List (List ℕ)). lines ++ first) rest.0 ∙ append_assoc shown others first, rest.1, Chain-push next events others middle event first new rest.2 plays))))
+
+-- what a replay keeps: events of the script are played, and what they print is written, but for what is pending
+pub record IsPlayed (script unread before after : Option (List ℕ)) (world : List Account) (pending : List ℕ) (count : ℕ) : Type 0 where
+  pub events : List (List (List ℕ))
+  pub printed : List (List ℕ)
+  pub out : List ℕ
+  pub told : IfTold script unread (λ bytes rest. lines_of bytes ≡ lines_in events ++ lines_of rest)
+  pub counted : length (lines_in events) ≡ count
+  pub chain : Chain [] events printed world
+  pub appended : Appends before after out
+  pub text : out ++ pending ≡ text_of printed
+
+IfTold-start : (script : Option (List ℕ)) → IfTold script (prepend_known [] script) (λ bytes rest. lines_of bytes ≡ lines_of rest)
+IfTold-start None = tt
+IfTold-start (Some bytes) = refl
+
+pub IsPlayed-none : (script before : Option (List ℕ)) → IsPlayed script (prepend_known [] script) before before [] [] 0
+IsPlayed-none script before = record {
+  events = [];
+  printed = [];
+  out = [];
+  told = IfTold-start script;
+  counted = refl;
+  chain = (refl, refl);
+  appended = Appends-nil before;
+  text = refl;
+}
+
+told_more : (script unread unread' : Option (List ℕ)) (events : List (List (List ℕ))) (line : List ℕ)
+    → IfTold script unread (λ bytes rest. lines_of bytes ≡ lines_in events ++ lines_of rest)
+    → IfTold unread unread' (λ bytes rest. lines_of bytes ≡ line ∷ lines_of rest)
+    → IfTold script unread' (λ bytes rest. lines_of bytes ≡ lines_in (events ++ (line ∷ []) ∷ []) ++ lines_of rest)
+told_more None unread unread' events line told more = tt
+told_more (Some bytes) None unread' events line told more = absurd told
+told_more (Some bytes) (Some rest) None events line told more = absurd more
+told_more (Some bytes) (Some rest) (Some rest') events line told more =
+    told
+    ∙ ap (λ (lines : List (List ℕ)). lines_in events ++ lines) more
+    ∙ sym (append_assoc (lines_in events) (line ∷ []) (lines_of rest'))
+    ∙ ap (λ (lines : List (List ℕ)). lines ++ lines_of rest') (sym (lines_in-push events (line ∷ [])))
+
+pub IsPlayed-more : (script unread unread' before after : Option (List ℕ)) (world next : List Account) (pending pending' : List ℕ) (count : ℕ) (line : List ℕ) (printed : List (List ℕ))
+    → IsPlayed script unread before after world pending count
+    → IfTold unread unread' (λ bytes rest. lines_of bytes ≡ line ∷ lines_of rest)
+    → Plays world (line ∷ []) printed next
+    → pending' ≡ pending ++ text_of printed
+    → IsPlayed script unread' before after next pending' (count + 1)
+IsPlayed-more script unread unread' before after world next pending pending' count line printed played more plays shown = record {
+  events = played.events ++ (line ∷ []) ∷ [];
+  printed = played.printed ++ printed;
+  out = played.out;
+  told = told_more script unread unread' played.events line played.told more;
+  counted = ap length (lines_in-push played.events (line ∷ [])) ∙ length-append (lines_in played.events) (line ∷ []) ∙ ap (λ n. n + 1) played.counted;
+  chain = Chain-push [] played.events played.printed world (line ∷ []) printed next played.chain plays;
+  appended = played.appended;
+  text = ap (λ (bytes : List ℕ). played.out ++ bytes) shown ∙ sym (append_assoc played.out pending (text_of printed)) ∙ ap (λ (bytes : List ℕ). bytes ++ text_of printed) played.text ∙ sym (text_of-append played.printed printed);
+}
+
+-- the same, where what is pending was written
+pub IsPlayed-sent : (script unread before after after' : Option (List ℕ)) (world : List Account) (pending : List ℕ) (count : ℕ)
+    → IsPlayed script unread before after world pending count → Appends after after' pending → IsPlayed script unread before after' world [] count
+IsPlayed-sent script unread before after after' world pending count played sent = record {
+  events = played.events;
+  printed = played.printed;
+  out = played.out ++ pending;
+  told = played.told;
+  counted = played.counted;
+  chain = played.chain;
+  appended = Appends-trans before after after' played.out pending played.appended sent;
+  text = append-nil (played.out ++ pending) ∙ played.text;
+}
+
+-- a front of a transcript was written, whatever of what is pending
+front_written : (script unread before after after' : Option (List ℕ)) (world : List Account) (pending : List ℕ) (count shown : ℕ)
+    → IsPlayed script unread before after world pending count → Appends after after' (take shown pending) → Writes script before after' IsFront
+front_written None unread before after after' world pending count shown played sent = tt
+front_written (Some bytes) None before after after' world pending count shown played sent = absurd played.told
+front_written (Some bytes) (Some rest) before after after' world pending count shown played sent =
+    (played.out ++ take shown pending,
+     (Appends-trans before after after' played.out (take shown pending) played.appended sent,
+      record {
+        rest = lines_of rest;
+        printed = played.printed;
+        last = world;
+        begins = record { events = played.events; split = played.told; chain = played.chain };
+        more = drop shown pending;
+        text_is = append_assoc played.out (take shown pending) (drop shown pending) ∙ ap (λ (text : List ℕ). played.out ++ text) (take-append-drop shown pending) ∙ played.text;
+      }))
+
+all_taken : (pending : List ℕ) → take (length pending) pending ≡ pending
+all_taken pending = take_all (length pending) pending (omega arith)
+
+pub Ends-write_fault : (script left unread before after after' : Option (List ℕ)) (world : List Account) (pending : List ℕ) (count : ℕ)
+    → IsPlayed script unread before after world pending count → AppendsFront after after' pending → Ends script left before after' WriteFault
+Ends-write_fault script left unread before after after' world pending count played sent =
+    front_written script unread before after after' world pending count sent.0 played sent.1
+
+whole_front : (script unread before after after' : Option (List ℕ)) (world : List Account) (pending : List ℕ) (count : ℕ)
+    → IsPlayed script unread before after world pending count → Appends after after' pending → Writes script before after' IsFront
+whole_front script unread before after after' world pending count played written =
+    front_written script unread before after after' world pending count (length pending) played (subst (λ (text : List ℕ). Appends after after' text) (sym (all_taken pending)) written)
+
+-- however the writing went, what it was to end with holds where it did, and a front was written where it failed
+ends_by : (script left unread before after after' : Option (List ℕ)) (world : List Account) (pending : List ℕ) (count faults faults' : ℕ) (end result : ReplayEnd)
+    → IsPlayed script unread before after world pending count
+    → Finishes after after' faults faults' pending end result
+    → (Appends after after' pending → Ends script left before after' end)
+    → Ends script left before after' result
+ends_by script left unread before after after' world pending count faults faults' end result played (inl written) whole =
+    subst (λ (e : ReplayEnd). Ends script left before after' e) (sym written.0) (whole written.1)
+ends_by script left unread before after after' world pending count faults faults' end result played (inr failed) whole =
+    subst (λ (e : ReplayEnd). Ends script left before after' e) (sym failed.0) (Ends-write_fault script left unread before after after' world pending count played failed.1)
+
+pub Ends-read_fault : (script left unread before after after' : Option (List ℕ)) (world : List Account) (pending : List ℕ) (count faults faults' : ℕ) (result : ReplayEnd)
+    → IsPlayed script unread before after world pending count → Finishes after after' faults faults' pending ReadFault result → Ends script left before after' result
+Ends-read_fault script left unread before after after' world pending count faults faults' result played finished =
+    ends_by script left unread before after after' world pending count faults faults' ReadFault result played finished (whole_front script unread before after after' world pending count played)
+
+pub Ends-memory : (script left unread before after after' : Option (List ℕ)) (world : List Account) (pending : List ℕ) (count faults faults' : ℕ) (result : ReplayEnd)
+    → IsPlayed script unread before after world pending count → Finishes after after' faults faults' pending Memory result → Ends script left before after' result
+Ends-memory script left unread before after after' world pending count faults faults' result played finished =
+    ends_by script left unread before after after' world pending count faults faults' Memory result played finished (whole_front script unread before after after' world pending count played)
+
+some_end : (ahead : List ℕ) (left : Option (List ℕ)) (rest : List ℕ) → prepend_known ahead left ≡ Some rest → rest ≡ [] → left ≡ Some []
+some_end ahead None rest known empty = cc
+some_end [] (Some left) rest known empty = cc
+some_end (byte ∷ ahead) (Some left) rest known empty = cc
+
+-- the input has no more line, and few lines were played
+done : (script left unread before after after' : Option (List ℕ)) (ahead : List ℕ) (world : List Account) (pending : List ℕ) (count : ℕ)
+    → IsPlayed script unread before after world pending count
+    → count ≤ most_lines
+    → IfTold unread (prepend_known ahead left) (λ bytes rest. (lines_of bytes ≡ []) × (rest ≡ []))
+    → Appends after after' pending
+    → Ends script left before after' Done
+done None left unread before after after' ahead world pending count played few ended written = (tt, tt)
+done (Some bytes) left None before after after' ahead world pending count played few ended written = absurd played.told
+done (Some bytes) None (Some rest) before after after' ahead world pending count played few ended written = absurd ended
+done (Some bytes) (Some left) (Some rest) before after after' ahead world pending count played few ended written =
+    let split : lines_of bytes ≡ lines_in played.events ++ [] = played.told ∙ ap (λ (lines : List (List ℕ)). lines_in played.events ++ lines) ended.0 in
+    (some_end ahead (Some left) (ahead ++ left) refl ended.1,
+     (played.out ++ pending,
+      (Appends-trans before after after' played.out pending played.appended written,
+       record {
+         printed = played.printed;
+         last = world;
+         run = record { events = played.events; split = split; chain = played.chain };
+         text = played.text;
+         few = rw (ap length split, append-nil, played.counted) few;
+       })))
+
+pub Ends-done : (script left unread before after after' : Option (List ℕ)) (ahead : List ℕ) (world : List Account) (pending : List ℕ) (count faults faults' : ℕ) (result : ReplayEnd)
+    → IsPlayed script unread before after world pending count
+    → count ≤ most_lines
+    → IfTold unread (prepend_known ahead left) (λ bytes rest. (lines_of bytes ≡ []) × (rest ≡ []))
+    → Finishes after after' faults faults' pending Done result
+    → Ends script left before after' result
+Ends-done script left unread before after after' ahead world pending count faults faults' result played few ended finished =
+    ends_by script left unread before after after' world pending count faults faults' Done result played finished (done script left unread before after after' ahead world pending count played few ended)
+
+-- the next line stops the world, where its number is within the limit
+abbrev pub StopsAt : List Account → ℕ → List ℕ → Type 0
+StopsAt world number bytes = (line : List ℕ) × ((rest : List (List ℕ)) × ((lines_of bytes ≡ line ∷ rest) × (number ≤ most_lines → GoesOn world (line ∷ rest) → ⊥)))
+
+refused : (script left unread before after after' : Option (List ℕ)) (world : List Account) (pending : List ℕ) (count : ℕ)
+    → IsPlayed script unread before after world pending count
+    → count ≤ most_lines
+    → IfSome unread (StopsAt world (count + 1))
+    → Appends after after' pending
+    → Ends script left before after' (Refused (count + 1))
+refused None left unread before after after' world pending count played few stops written = tt
+refused (Some bytes) left None before after after' world pending count played few stops written = absurd played.told
+refused (Some bytes) left (Some unread) before after after' world pending count played few stops written =
+    let line = stops.0 in
+    let rest = stops.1.0 in
+    let split : lines_of bytes ≡ lines_in played.events ++ line ∷ rest = played.told ∙ ap (λ (lines : List (List ℕ)). lines_in played.events ++ lines) stops.1.1.0 in
+    (played.out ++ pending,
+     (Appends-trans before after after' played.out pending played.appended written,
+      record {
+        line = line;
+        rest = rest;
+        printed = played.printed;
+        last = world;
+        begins = record { events = played.events; split = split; chain = played.chain };
+        number_is = number_is (lines_in played.events) line rest (lines_of bytes) count played.counted split;
+        within = omega (arith, few);
+        text_is = played.text;
+        stops = stops.1.1.1;
+      }))
+where
+    number_is : (front : List (List ℕ)) (line : List ℕ) (rest all : List (List ℕ)) (count : ℕ) → length front ≡ count → all ≡ front ++ line ∷ rest → count + 1 + length rest ≡ length all
+    number_is front line rest all count counted split = omega (arith, ap length split, length-append front (line ∷ rest), counted)
+
+pub Ends-refused : (script left unread before after after' : Option (List ℕ)) (world : List Account) (pending : List ℕ) (count faults faults' : ℕ) (result : ReplayEnd)
+    → IsPlayed script unread before after world pending count
+    → count ≤ most_lines
+    → IfSome unread (StopsAt world (count + 1))
+    → Finishes after after' faults faults' pending (Refused (count + 1)) result
+    → Ends script left before after' result
+Ends-refused script left unread before after after' world pending count faults faults' result played few stops finished =
+    ends_by script left unread before after after' world pending count faults faults' (Refused (count + 1)) result played finished (refused script left unread before after after' world pending count played few stops)
+
+pub StopsAt-stops : (unread : Option (List ℕ)) (world : List Account) (number : ℕ) → IfSome unread (Stops world) → IfSome unread (StopsAt world number)
+StopsAt-stops None world number stops = tt
+StopsAt-stops (Some bytes) world number stops = (stops.0, (stops.1.0, (stops.1.1.0, λ _. stops.1.1.1)))
+
+-- one line more than the limit
+pub StopsAt-past : (unread unread' : Option (List ℕ)) (world : List Account) (line : List ℕ) → IfTold unread unread' (λ bytes rest. lines_of bytes ≡ line ∷ lines_of rest) → IfSome unread (StopsAt world (most_lines + 1))
+StopsAt-past None unread' world line more = tt
+StopsAt-past (Some bytes) None world line more = absurd more
+StopsAt-past (Some bytes) (Some rest) world line more = (line, (lines_of rest, (more, λ within. absurd (omega (arith, within)))))
+
+-- what succeeds follows from how a replay may end, and from the causes of the failures
+not_refused : (bytes text : List ℕ) (number : ℕ) → IsOfForm bytes → IsRefused bytes number text → ⊥
+not_refused bytes text number form refusal =
+    refusal.stops (omega (arith, form.few, refusal.number_is)) (form.goes_on refusal.line refusal.rest refusal.printed refusal.last refusal.begins)
+
+pub Completes-ends : (script left before after : Option (List ℕ)) (ReadRose WriteRose : Type 0) (end : ReplayEnd)
+    → Ends script left before after end → (end ≡ ReadFault → ReadRose) → (end ≡ WriteFault → WriteRose) → Completes script ReadRose WriteRose end
+Completes-ends None left before after ReadRose WriteRose end ends read write = tt
+Completes-ends (Some bytes) left before after ReadRose WriteRose Done ends read write = λ form still_read still_written. tt
+Completes-ends (Some bytes) left before after ReadRose WriteRose Memory ends read write = λ form still_read still_written. tt
+Completes-ends (Some bytes) left before after ReadRose WriteRose (Refused number) ends read write = λ form still_read still_written. not_refused bytes ends.0 number form ends.1.1
+Completes-ends (Some bytes) left before after ReadRose WriteRose ReadFault ends read write = λ form still_read still_written. still_read (read refl)
+Completes-ends (Some bytes) left before after ReadRose WriteRose WriteFault ends read write = λ form still_read still_written. still_written (write refl)

@@ -1,0 +1,11 @@
+use Rattle.std.proofs.Common.{Ok, Err, sym, ap, ◌∙◌}
+use Rattle.pc_world.proofs.Asking.{asked_of, asked_once}
+use Rattle.pc_world.proofs.reading.asked.Goals as goal
+
+pub returns-in-Ok-clause-only : goal.returns-in-Ok-clause-only
+returns-in-Ok-clause-only c =
+    asked_once c.args.text.now (Ok c.in-Ok.request) c.if-text-gt-MOST_REQUEST.false c.in-Ok.ensures.only c.in-Ok.ensures.only_fault
+
+pub returns-in-Err-clause-only : goal.returns-in-Err-clause-only
+returns-in-Err-clause-only c =
+    asked_once c.args.text.now (Err c.in-Err.fault) c.if-text-gt-MOST_REQUEST.false c.in-Err.ensures.only c.in-Err.ensures.only_fault

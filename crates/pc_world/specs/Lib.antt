@@ -1,0 +1,7 @@
+pub mod Account
+pub mod Events
+pub mod Repository
+pub mod Reading
+pub mod Runs
+pub mod Steps
+pub mod View

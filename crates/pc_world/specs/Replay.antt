@@ -1,0 +1,64 @@
+-- How a replay goes on, and how it ends.
+use Rattle.std.specs.Prelude.{◌≡◌, ℕ, List, [], ◌∷◌, ◌++◌, Option, Some, IfSome, ◌⊎◌}
+use Rattle.std.specs.Io.KnownBytes.{Appends}
+use Rattle.pc_base.specs.Stream.{AppendsFront, Rose}
+use Rattle.pc_wire.specs.Lines.{lines_of}
+use Rattle.pc_wire.specs.Reader.{IfTold}
+use Rattle.pc_world.specs.Account.{Account}
+use Rattle.pc_world.specs.declared.replaying.ReplayEnd.{ReplayEnd}
+use Rattle.pc_world.specs.declared.replaying.ReplayEnd.TheVariants.{Done, Refused, ReadFault, WriteFault, Memory}
+use Rattle.pc_world.specs.declared.turn.Turn.{Turn}
+use Rattle.pc_world.specs.declared.turn.Turn.TheVariants as turn
+use Rattle.pc_world.specs.Runs.{Plays, GoesOn, IsRun, IsRefused, IsFront, IsOfForm, text_of}
+
+-- a line was played, or refused, or memory was wanted; the text has what was printed behind it
+abbrev pub PlaysLine : List Account → List Account → List ℕ → List ℕ → List ℕ → Turn → Type 0
+PlaysLine old new text text' line turn.Played =
+    (printed : List (List ℕ)) × (Plays old (line ∷ []) printed new × (text' ≡ text ++ text_of printed))
+PlaysLine old new text text' line turn.Refused = ((rest : List (List ℕ)) → GoesOn old (line ∷ rest) → ⊥) × (text' ≡ text)
+PlaysLine old new text text' line turn.Memory = text' ≡ text
+PlaysLine old new text text' line turn.Ended = ⊥
+PlaysLine old new text text' line turn.ReadFault = ⊥
+
+-- the lines that are left begin with one that stops the world
+abbrev pub Stops : List Account → List ℕ → Type 0
+Stops world bytes = (line : List ℕ) × ((rest : List (List ℕ)) × ((lines_of bytes ≡ line ∷ rest) × (GoesOn world (line ∷ rest) → ⊥)))
+
+-- the next line was fetched and played, from the unread bytes before to those after
+abbrev pub TakesTurn : List Account → List Account → List ℕ → List ℕ → Option (List ℕ) → Option (List ℕ) → Turn → Type 0
+TakesTurn old new text text' before after turn.Played =
+    (line : List ℕ) × (IfTold before after (λ bytes rest. lines_of bytes ≡ line ∷ lines_of rest) × PlaysLine old new text text' line turn.Played)
+TakesTurn old new text text' before after turn.Ended =
+    IfTold before after (λ bytes rest. (lines_of bytes ≡ []) × (rest ≡ [])) × (text' ≡ text)
+TakesTurn old new text text' before after turn.Refused = IfSome before (Stops old) × (text' ≡ text)
+TakesTurn old new text text' before after turn.ReadFault = text' ≡ text
+TakesTurn old new text text' before after turn.Memory = text' ≡ text
+
+-- the text was written and this is the end, or the output failed
+abbrev pub Finishes : Option (List ℕ) → Option (List ℕ) → ℕ → ℕ → List ℕ → ReplayEnd → ReplayEnd → Type 0
+Finishes before after faults faults' text end result =
+    ((result ≡ end) × Appends before after text) ⊎ ((result ≡ WriteFault) × AppendsFront before after text × Rose faults faults')
+
+-- the bytes appended to the output are such a text of the script, where the input tells it
+abbrev pub Writes : Option (List ℕ) → Option (List ℕ) → Option (List ℕ) → (List ℕ → List ℕ → Type 0) → Type 0
+Writes script before after Fact = IfSome script (λ bytes. (text : List ℕ) × (Appends before after text × Fact bytes text))
+
+-- the input from `script` to `left` and the output from `before` to `after`, by how the replay ended
+abbrev pub Ends : Option (List ℕ) → Option (List ℕ) → Option (List ℕ) → Option (List ℕ) → ReplayEnd → Type 0
+Ends script left before after Done = IfSome script (λ _. left ≡ Some []) × Writes script before after IsRun
+Ends script left before after (Refused line) = Writes script before after (λ bytes text. IsRefused bytes line text)
+Ends script left before after ReadFault = Writes script before after IsFront
+Ends script left before after WriteFault = Writes script before after IsFront
+Ends script left before after Memory = Writes script before after IsFront
+
+-- the script was played to its end, or memory was wanted
+abbrev pub IsComplete : ReplayEnd → Type 0
+IsComplete Done = Unit {0}
+IsComplete Memory = Unit {0}
+IsComplete (Refused line) = ⊥
+IsComplete ReadFault = ⊥
+IsComplete WriteFault = ⊥
+
+-- a script of the form is played to its end where no count rises
+abbrev pub Completes : Option (List ℕ) → Type 0 → Type 0 → ReplayEnd → Type 0
+Completes script ReadRose WriteRose end = IfSome script (λ bytes. IsOfForm bytes → (ReadRose → ⊥) → (WriteRose → ⊥) → IsComplete end)

@@ -1,0 +1,12 @@
+//! Worlds: the events of a script, what they do, and the replay of a whole script.
+#![tactic(auto)]
+
+mod event;
+mod reading;
+mod repository;
+mod world;
+
+pub use event::{Asked, Event, EventFault};
+pub use reading::read_event;
+pub use repository::Reply;
+pub use world::World;

@@ -1,0 +1,123 @@
+//! Lines of a script, read as events.
+
+ghost use Rattle.std.specs.Prelude.{◌≡◌, [], ◌∷◌, IfOk, IfErr, OnErr, Ok, Err, Some};
+ghost use Rattle.pc_request.specs.Request.{IsRequest};
+ghost use Rattle.pc_request.specs.Fault.{fault_of};
+ghost use Rattle.pc_request.specs.declared.request.Request.{Request as RequestValue};
+ghost use Rattle.pc_request.specs.declared.request.RequestFault.{RequestFault as FaultValue};
+ghost use Rattle.pc_world.specs.Events.{is_silent, IsAsked, IsEvent};
+ghost use Rattle.pc_world.specs.Reading.{Says, SaysAsk, SaysUser};
+ghost use Rattle.pc_world.specs.declared.event.Asked.{Asked as AskedValue};
+ghost use Rattle.pc_world.specs.declared.event.Event.{Event as EventValue};
+
+use crate::event::{Asked, Event, EventFault};
+use pc_base::{Name, Password};
+use pc_request::{Request, RequestFault};
+use pc_wire::{next_word, without_spaces};
+
+/// The most bytes of a line, and of a request in it.
+const MOST_LINE: usize = 1000;
+const MOST_REQUEST: usize = 512;
+
+/// The event that a line is. `Bad` comes exactly where it is none: a line of more than 1,000
+/// bytes, or one that isn't spelled as any event.
+pub fn read_event(line: &[u8]) -> Result<Event, EventFault>
+    ensures ok { IfOk result (λ event. IsEvent (line.now ∷ []) event) }
+    ensures only { IfOk result (λ event. (other : EventValue) → IsEvent (line.now ∷ []) other → other ≡ event) }
+    ensures bad { OnErr result ((event : EventValue) → IsEvent (line.now ∷ []) event → ⊥) }
+{
+    if line.len() > MOST_LINE {
+        return Err(EventFault::Bad);
+    }
+    if is_silent_line(line) {
+        return Ok(Event::Silent);
+    }
+    let Some(event) = said(line) else {
+        return Err(EventFault::Bad);
+    };
+    Ok(event)
+}
+
+fn is_silent_line(line: &[u8]) -> bool
+    ensures { result ≡ is_silent line.now }
+{
+    match line {
+        [] => true,
+        [first, ..] => *first == b'#',
+    }
+}
+
+/// The event that a line says which isn't silent.
+fn said(line: &[u8]) -> Option<Event>
+    ensures { Says line.now result }
+{
+    let Some((word, rest)) = next_word(line) else {
+        return None;
+    };
+    if word == b"user".as_slice() {
+        return said_user(rest);
+    }
+    if word == b"ask".as_slice() {
+        return said_ask(rest);
+    }
+    None
+}
+
+/// The user that the words behind `user` name.
+fn said_user(words: &[u8]) -> Option<Event>
+    ensures { SaysUser words.now result }
+{
+    let Some((name, rest)) = next_word(words) else {
+        return None;
+    };
+    let Some((password, rest)) = next_word(rest) else {
+        return None;
+    };
+    if next_word(rest).is_some() {
+        return None;
+    }
+    let Some(name) = Name::read(name) else {
+        return None;
+    };
+    let Some(password) = Password::read(password) else {
+        return None;
+    };
+    Some(Event::User { name, password })
+}
+
+/// What the words behind `ask` ask for.
+fn said_ask(words: &[u8]) -> Option<Event>
+    ensures { SaysAsk words.now result }
+{
+    let Some((user, rest)) = next_word(words) else {
+        return None;
+    };
+    let Some(user) = Name::read(user) else {
+        return None;
+    };
+    let asked = asked(without_spaces(rest));
+    Some(Event::Ask { user, asked })
+}
+
+/// What a text asks for.
+fn asked(text: &[u8]) -> Asked
+    ensures is { IsAsked text.now result }
+    ensures only { (other : AskedValue) → IsAsked text.now other → other ≡ result }
+{
+    if text.len() > MOST_REQUEST {
+        return Asked::TooLong;
+    }
+    match read_request(text) {
+        Ok(request) => Asked::Read(request),
+        Err(fault) => Asked::Faulty(fault),
+    }
+}
+
+fn read_request(line: &[u8]) -> Result<Request, RequestFault>
+    ensures ok { IfOk result (λ request. IsRequest request line.now) }
+    ensures fault { IfErr result (λ fault. fault_of line.now ≡ Some fault) }
+    ensures only { (request : RequestValue) → IsRequest request line.now → result ≡ Ok request }
+    ensures only_fault { (fault : FaultValue) → fault_of line.now ≡ Some fault → result ≡ Err fault }
+{
+    Err(RequestFault::Unknown)
+}

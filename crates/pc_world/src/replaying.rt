@@ -1,0 +1,184 @@
+//! The replay of a script: its lines are read, played and written as a transcript.
+
+ghost use Rattle.std.specs.Prelude.{◌≡◌, ◌≤◌, [], ◌++◌, OnOk, OnErr, IfOk, length, take};
+ghost use Rattle.pc_base.specs.Stream.{Rose, HasCause, WritesAll};
+ghost use Rattle.pc_wire.specs.Reader.{no_line, unread};
+ghost use Rattle.pc_world.specs.Replay.{PlaysLine, TakesTurn, Finishes, Ends, Completes};
+ghost use Rattle.pc_world.specs.Runs.{text_of};
+
+use crate::reading::read_event;
+use crate::turn::Turn;
+use crate::world::World;
+use pc_base::{Bytes, Failed, Memory, Printed, Sink, Source, write_all};
+use pc_wire::{Fetched, LineReader, Next};
+use std::alloc::Global;
+
+/// The most lines of a script.
+const MOST_LINES: u64 = 1_000_000;
+
+/// How many bytes are printed before they are written.
+const FULL: usize = 32_768;
+
+/// How a replay ended.
+#[derive(Clone, Copy, Debug, PartialEq, Eq)]
+pub enum ReplayEnd {
+    /// The script was played to its end.
+    Done,
+    /// The line with this number is no event, names what isn't there, or is one too many.
+    Refused { line: u64 },
+    /// The input failed.
+    ReadFault,
+    /// The output failed.
+    WriteFault,
+    /// Want of memory.
+    Memory,
+}
+
+/// Plays the script that the input gives, line by line, and writes what each event prints. Every
+/// event before the end is written before it is answered, unless the output fails.
+pub fn replay<S: Source, K: Sink>(alloc: Global, input: &mut S, output: &mut K) -> ReplayEnd
+    ensures ends { Ends (S.left input.old) (S.left input.new) (K.written output.old) (K.written output.new) result }
+    ensures read { result ≡ ReplayEnd.ReadFault → Rose (S.faults input.old) (S.faults input.new) }
+    ensures write { result ≡ ReplayEnd.WriteFault → Rose (K.faults output.old) (K.faults output.new) }
+    ensures complete { Completes (S.left input.old) (Rose (S.faults input.old) (S.faults input.new)) (Rose (K.faults output.old) (K.faults output.new)) result }
+    ensures input_count { S.faults input.old ≤ S.faults input.new }
+    ensures output_count { K.faults output.old ≤ K.faults output.new }
+{
+    play_all(alloc, input, output)
+}
+
+fn play_all<S: Source, K: Sink>(alloc: Global, input: &mut S, output: &mut K) -> ReplayEnd
+    ensures ends { Ends (S.left input.old) (S.left input.new) (K.written output.old) (K.written output.new) result }
+    ensures read { result ≡ ReplayEnd.ReadFault → Rose (S.faults input.old) (S.faults input.new) }
+    ensures write { result ≡ ReplayEnd.WriteFault → Rose (K.faults output.old) (K.faults output.new) }
+    ensures input_count { S.faults input.old ≤ S.faults input.new }
+    ensures output_count { K.faults output.old ≤ K.faults output.new }
+{
+    let Ok(mut lines) = LineReader::new(alloc, 1000) else {
+        return ReplayEnd::Memory;
+    };
+    let mut world = World::new();
+    let mut text = Vec::new(alloc);
+    for number in 0..MOST_LINES {
+        match play_next(alloc, input, &mut lines, &mut world, &mut text) {
+            Turn::Played => {}
+            Turn::Ended => return finish(output, &text, ReplayEnd::Done),
+            Turn::Refused => return finish(output, &text, ReplayEnd::Refused { line: number + 1 }),
+            Turn::ReadFault => return finish(output, &text, ReplayEnd::ReadFault),
+            Turn::Memory => return finish(output, &text, ReplayEnd::Memory),
+        }
+        if send_full(output, &mut text).is_err() {
+            return ReplayEnd::WriteFault;
+        }
+    }
+    match lines.fetch(input) {
+        Ok(Fetched::End) => finish(output, &text, ReplayEnd::Done),
+        Ok(_) => finish(output, &text, ReplayEnd::Refused { line: MOST_LINES + 1 }),
+        Err(_) => finish(output, &text, ReplayEnd::ReadFault),
+    }
+}
+
+/// Writes what is left of the text, and ends so.
+fn finish<K: Sink>(output: &mut K, text: &Vec<u8>, end: ReplayEnd) -> ReplayEnd
+    ensures end { Finishes (K.written output.old) (K.written output.new) (K.faults output.old) (K.faults output.new) text.now.items end result }
+    ensures count { K.faults output.old ≤ K.faults output.new }
+{
+    if write_all(output, text.as_slice()).is_err() {
+        return ReplayEnd::WriteFault;
+    }
+    end
+}
+
+/// Writes the text where there is much of it.
+fn send_full<K: Sink>(output: &mut K, text: &mut Vec<u8>) -> Result<(), Failed>
+    ensures content { WritesAll (K.written output.old) (K.written output.new) result text.old.items }
+    ensures rest { OnOk result (text.new.items ≡ []) }
+    ensures cause { HasCause (K.faults output.old) (K.faults output.new) result }
+{
+    if text.len() < FULL {
+        return Ok(());
+    }
+    write_all(output, text.as_slice())?;
+    text.clear();
+    Ok(())
+}
+
+/// Fetches the next line and plays it.
+fn play_next<S: Source>(
+    alloc: Global,
+    input: &mut S,
+    lines: &mut LineReader,
+    world: &mut World,
+    text: &mut Vec<u8>,
+) -> Turn
+    requires waits { lines.old.waits ≡ no_line }
+    requires limit { lines.old.limit ≡ 1000 }
+    ensures turn { TakesTurn world.old world.new text.old.items text.new.items (unread lines.old (S.left input.old)) (unread lines.new (S.left input.new)) result }
+    ensures cause { result ≡ Turn.ReadFault → Rose (S.faults input.old) (S.faults input.new) }
+    ensures count { S.faults input.old ≤ S.faults input.new }
+    ensures waits { lines.new.waits ≡ no_line }
+    ensures limit { lines.new.limit ≡ 1000 }
+{
+    match lines.fetch(input) {
+        Ok(Fetched::Waits) => {}
+        Ok(Fetched::End) => return Turn::Ended,
+        Ok(Fetched::Endless) => return Turn::Refused,
+        Err(_) => return Turn::ReadFault,
+    }
+    let turn = play_shown(alloc, lines.line(), world, text);
+    lines.consume();
+    turn
+}
+
+/// Plays the line that is shown.
+fn play_shown(alloc: Global, shown: Next<'_>, world: &mut World, text: &mut Vec<u8>) -> Turn
+    ensures { (line : List ℕ) → ShowsLine 1000 line shown.entry → PlaysLine world.old world.new text.old.items text.new.items line result }
+{
+    match shown {
+        Next::Line(line) => play_line(alloc, line, world, text),
+        _ => Turn::Refused,
+    }
+}
+
+/// Plays a line.
+fn play_line(alloc: Global, line: &[u8], world: &mut World, text: &mut Vec<u8>) -> Turn
+    ensures { PlaysLine world.old world.new text.old.items text.new.items line.now result }
+{
+    let Ok(event) = read_event(line) else {
+        return Turn::Refused;
+    };
+    if !world.fits(&event) {
+        return Turn::Refused;
+    }
+    let Ok(printed) = world.play(alloc, &event) else {
+        return Turn::Memory;
+    };
+    if append_lines(text, printed.as_slice()).is_err() {
+        return Turn::Memory;
+    }
+    Turn::Played
+}
+
+/// Puts lines of a transcript behind the text, each with its LF. After `Err` the text is as before.
+fn append_lines(text: &mut Vec<u8>, lines: &[Bytes]) -> Result<(), Memory>
+    ensures ok { OnOk result (text.new.items ≡ text.old.items ++ text_of lines.now) }
+    ensures err { OnErr result (text.new.items ≡ text.old.items) }
+{
+    let length = text.len();
+    if push_lines(text, lines).is_err() {
+        text.truncate(length);
+        return Err(Memory);
+    }
+    Ok(())
+}
+
+fn push_lines(text: &mut Vec<u8>, lines: &[Bytes]) -> Result<(), Memory>
+    ensures ok { OnOk result (text.new.items ≡ text.old.items ++ text_of lines.now) }
+    ensures front { take (length text.old.items) text.new.items ≡ text.old.items }
+{
+    for line in lines {
+        text.extend_from_slice(line.as_slice())?;
+        text.push(b'\n')?;
+    }
+    Ok(())
+}
