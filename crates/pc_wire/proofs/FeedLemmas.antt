@@ -1,5 +1,5 @@
 -- Feeds: what is kept of the bytes that came, and what is shown of it.
-use Rattle.std.proofs.Common.{◌≡◌, ℕ, ◌+◌, ◌-◌, ◌<◌, ◌≤◌, ◌↔◌, Bool, true, false, cond, not, eqb, ◌||◌, ◌⊎◌, inl, inr, List, [], ◌∷◌, ◌++◌, length, take, drop, sym, refl, ap, subst, ◌∙◌, arith, append_assoc, length-append, length-take, one-add, min, MatchBool}
+use Rattle.std.proofs.Common.{◌≡◌, ℕ, ◌+◌, ◌-◌, ◌<◌, ◌≤◌, ◌↔◌, Bool, true, false, cond, not, eqb, ◌||◌, inl, inr, List, [], ◌∷◌, ◌++◌, length, take, drop, sym, refl, ap, subst, ◌∙◌, arith, append_assoc, length-append, length-take, one-add, min}
 use Rattle.std.specs.List.{concat, position_or_len}
 use Rattle.std.specs.Io.BufRead.{take_through}
 use Rattle.std.proofs.lemmas.List.{append-nil, take_all, take-take, take-append-le, take-append-drop, take_min, length-take-le}
@@ -89,9 +89,9 @@ fed-past limit since piece e = rw (before_feed-past since piece e, has_feed-appe
 -- a piece goes on where the bytes since the last line ended
 pub fed-more : (limit : ℕ) (since : List ℕ) (new : FeedState) (piece : List ℕ) (count : ℕ) → Feeds (fed limit since) new piece count → new ≡ fed limit (since ++ piece)
 fed-more limit since new piece count f = elim (cases_Bool (has_feed since)) [
-    inl e ↦ (f.waits e).1 ∙ sym (fed-past limit since piece e)
+  | inl e ↦ (f.waits e).1 ∙ sym (fed-past limit since piece e)
   | inr e ↦ (f.takes e).1 ∙ fed-append limit since piece e
-  ]
+]
 
 pub fed-pieces : (limit : ℕ) (since : List ℕ) (new : FeedState) (pieces : List (List ℕ)) → FeedsAll (fed limit since) new pieces → new ≡ fed limit (since ++ concat pieces)
 fed-pieces limit since new [] f = f ∙ ap (fed limit) (sym (append-nil since))
@@ -103,21 +103,21 @@ fed-pieces limit since new (piece ∷ pieces) (middle, (count, f)) =
 -- what follows the first LF of a piece doesn't count
 before_feed-take_through : (piece : List ℕ) → before_feed (take_through 10 piece) ≡ before_feed piece
 before_feed-take_through piece = elim (cases_Bool (has_feed piece)) [
-    inl e ↦ ap before_feed (take_through-feed piece e) ∙ before_feed-feed (before_feed piece) [] (open-before_feed piece)
+  | inl e ↦ ap before_feed (take_through-feed piece e) ∙ before_feed-feed (before_feed piece) [] (open-before_feed piece)
   | inr e ↦ ap before_feed (take_through-open piece e)
-  ]
+]
 
 has_feed-take_through : (piece : List ℕ) → has_feed (take_through 10 piece) ≡ has_feed piece
 has_feed-take_through piece = elim (cases_Bool (has_feed piece)) [
-    inl e ↦ ap has_feed (take_through-feed piece e) ∙ has_feed-append (before_feed piece) (10 ∷ []) ∙ ap (λ t. t || true) (open-before_feed piece) ∙ sym e
+  | inl e ↦ ap has_feed (take_through-feed piece e) ∙ has_feed-append (before_feed piece) (10 ∷ []) ∙ ap (λ t. t || true) (open-before_feed piece) ∙ sym e
   | inr e ↦ ap has_feed (take_through-open piece e)
-  ]
+]
 
 pub fed-taken : (limit : ℕ) (since : List ℕ) (new : FeedState) (piece : List ℕ) (count : ℕ) → Feeds (fed limit since) new piece count → new ≡ fed limit (since ++ take count piece)
 fed-taken limit since new piece count f = elim (cases_Bool (has_feed since)) [
-    inl e ↦ (f.waits e).1 ∙ sym (fed-past limit since (take count piece) e)
+  | inl e ↦ (f.waits e).1 ∙ sym (fed-past limit since (take count piece) e)
   | inr e ↦ takes e
-  ]
+]
   where
     takes : has_feed since ≡ false → new ≡ fed limit (since ++ take count piece)
     takes e =
@@ -146,9 +146,9 @@ fed-goes_on limit since new piece count e f whole =
 -- at most one byte is taken off
 pub length-without_return : (bytes : List ℕ) → (length (without_return bytes) ≤ length bytes) × (length bytes ≤ length (without_return bytes) + 1)
 length-without_return bytes = elim (return_or_none bytes) [
-    inl e ↦ (omega (arith, ap length e, length-append (without_return bytes) (13 ∷ [])), omega (arith, ap length e, length-append (without_return bytes) (13 ∷ [])))
+  | inl e ↦ (omega (arith, ap length e, length-append (without_return bytes) (13 ∷ [])), omega (arith, ap length e, length-append (without_return bytes) (13 ∷ [])))
   | inr e ↦ (omega (arith, ap length e), omega (arith, ap length e))
-  ]
+]
 
 -- what passes the limit shows as any other line that does
 ShowsLine-past : (limit : ℕ) (line other : List ℕ) (shown : Next) → limit < length line → limit < length other → ShowsLine limit line shown → ShowsLine limit other shown
@@ -159,15 +159,15 @@ ShowsLine-past limit line other TooLong past over shows = over
 -- two bytes past the limit are enough to tell
 pub ShowsLine-cut : (limit : ℕ) (line : List ℕ) (shown : Next) → ShowsLine limit (without_return (take (limit + 2) line)) shown → ShowsLine limit (without_return line) shown
 ShowsLine-cut limit line shown shows = elim (cases_lt (limit + 2) (length line)) [
-    inl h ↦ ShowsLine-past limit (without_return (take (limit + 2) line)) (without_return line) shown (omega (arith, length-take-le (limit + 2) line (omega arith), length-without_return (take (limit + 2) line))) (omega (arith, length-without_return line)) shows
+  | inl h ↦ ShowsLine-past limit (without_return (take (limit + 2) line)) (without_return line) shown (omega (arith, length-take-le (limit + 2) line (omega arith), length-without_return (take (limit + 2) line))) (omega (arith, length-without_return line)) shows
   | inr h ↦ rw (take_all (limit + 2) line h) at shows
-  ]
+]
 
 ShowsLine-cut_whole : (limit : ℕ) (line : List ℕ) (shown : Next) → ShowsLine limit (take (limit + 2) line) shown → ShowsLine limit line shown
 ShowsLine-cut_whole limit line shown shows = elim (cases_lt (limit + 2) (length line)) [
-    inl h ↦ ShowsLine-past limit (take (limit + 2) line) line shown (omega (arith, length-take-le (limit + 2) line (omega arith))) (omega arith) shows
+  | inl h ↦ ShowsLine-past limit (take (limit + 2) line) line shown (omega (arith, length-take-le (limit + 2) line (omega arith))) (omega arith) shows
   | inr h ↦ rw (take_all (limit + 2) line h) at shows
-  ]
+]
 
 pub fed-shows : (limit : ℕ) (since : List ℕ) (new : FeedState) (piece : List ℕ) (count : ℕ) (shown : Next) → has_feed since ≡ false → Feeds (fed limit since) new piece count → new.is_whole ≡ true → ShowsNext new shown → ShowsLine limit (without_return (since ++ before_feed piece)) shown
 fed-shows limit since new piece count shown e f whole shows =
@@ -195,9 +195,9 @@ without_return-append bytes (b ∷ bs) =
 -- the cut leaves what tells whether the line passes the limit
 past_cut : (limit : ℕ) (line : List ℕ) → limit < length (without_return (take (limit + 2) line)) ↔ limit < length (without_return line)
 past_cut limit line = elim (cases_lt (limit + 2) (length line)) [
-    inl h ↦ (λ _. omega (arith, length-without_return line), λ _. omega (arith, length-take-le (limit + 2) line (omega arith), length-without_return (take (limit + 2) line)))
+  | inl h ↦ (λ _. omega (arith, length-without_return line), λ _. omega (arith, length-take-le (limit + 2) line (omega arith), length-without_return (take (limit + 2) line)))
   | inr h ↦ rw (take_all (limit + 2) line h) (λ p. p, λ p. p)
-  ]
+]
 
 pub over_stays : (limit : ℕ) (since : List ℕ) → has_feed since ≡ false → (IsOver (fed limit since) ↔ ((more : List ℕ) → limit < length (without_return (since ++ more))))
 over_stays limit since e =
@@ -244,9 +244,9 @@ Feeds-all old new piece place still at all is =
 -- an LF: it's taken too
 pub Feeds-whole : (old new : FeedState) (piece : List ℕ) (place : ℕ) → old.is_whole ≡ false → place ≡ position_or_len is_feed piece → (place ≡ length piece → ⊥) → new ≡ record { limit = old.limit; text = take (old.limit + 2) (old.text ++ take place piece); is_whole = true } → Feeds old new piece (place + 1)
 Feeds-whole old new piece place still at some is = elim (cases_Bool (has_feed piece)) [
-    inl has ↦ Feeds-place old new piece (place + 1) place true still at is (sym has) (omega (arith, at, ap length (take_through-feed piece has), length-append (before_feed piece) (10 ∷ []), ap length (before_feed-is piece), length-take-le (position_or_len is_feed piece) piece (place-within is_feed piece)))
+  | inl has ↦ Feeds-place old new piece (place + 1) place true still at is (sym has) (omega (arith, at, ap length (take_through-feed piece has), length-append (before_feed piece) (10 ∷ []), ap length (before_feed-is piece), length-take-le (position_or_len is_feed piece) piece (place-within is_feed piece)))
   | inr none ↦ absurd (some (at ∙ open-place piece none))
-  ]
+]
 
 -- bytes are kept as far as there is room
 pub kept_is : (n : ℕ) (text bytes : List ℕ) → length text ≤ n → text ++ take (min (n - length text) (length bytes)) bytes ≡ take n (text ++ bytes)

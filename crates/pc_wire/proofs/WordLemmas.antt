@@ -1,9 +1,9 @@
 -- Words: where they begin and end.
-use Rattle.std.proofs.Common.{◌≡◌, ℕ, ◌+◌, ◌<◌, ◌≤◌, Bool, true, false, cond, not, List, [], ◌∷◌, ◌++◌, length, take, drop, sym, refl, ap, ◌∙◌, arith, one-add}
-use Rattle.std.specs.List.{onto_first, prefix_len, position_or_len}
+use Rattle.std.proofs.Common.{◌≡◌, ℕ, ◌+◌, ◌<◌, Bool, true, false, cond, not, List, [], ◌∷◌, length, take, drop, sym, refl, ap, ◌∙◌, arith, one-add}
+use Rattle.std.specs.List.{onto_first, position_or_len}
 use Rattle.std.proofs.lemmas.Bool.{false≢true}
 use Rattle.std.proofs.lemmas.List.{nil_from_length}
-use Rattle.pc_wire.specs.Words.{is_space, is_between, with_byte, words_of, without_spaces, from_space, after_word}
+use Rattle.pc_wire.specs.Words.{is_space, is_between, words_of, without_spaces, from_space, after_word}
 
 -- the text before its first space
 pub until_space : List ℕ → List ℕ
@@ -75,8 +75,7 @@ pub words_of-cut : (text left word rest : List ℕ) (place : ℕ) → left ≡ w
 words_of-cut text left word rest place e some at front back =
     let begins : is_between left ≡ false = ap is_between e ∙ without_spaces-begins text (omega (arith, ap length e)) in
     let until : word ≡ until_space left = front ∙ ap (λ n. take n left) at ∙ sym (until_space-is left) in
-    let from : rest ≡ from_space left = back ∙ ap (λ n. drop n left) at ∙ sym (from_space-is left) in
-    (
+    let from : rest ≡ from_space left = back ∙ ap (λ n. drop n left) at ∙ sym (from_space-is left) in (
       sym (words_of-without_spaces text) ∙ ap words_of (sym e) ∙ words_of-first left begins ∙ rw (← until, ← from) refl,
       from ∙ ap from_space e,
     )
