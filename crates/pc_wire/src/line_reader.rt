@@ -120,3 +120,6 @@ fn seek_feed<S: Source>(buffer: &mut ReadBuffer, feed: &mut LineFeed, source: &m
     }
     Ok(Fetched::Endless)
 }
+
+#[cfg(test)]
+mod tests;
