@@ -1,8 +1,9 @@
 -- Feeds: what is kept of the bytes that came, and what is shown of it.
-use Rattle.std.proofs.Common.{◌≡◌, ℕ, ◌+◌, ◌-◌, ◌<◌, ◌≤◌, ◌↔◌, Bool, true, false, cond, eqb, ◌||◌, ◌⊎◌, inl, inr, List, [], ◌∷◌, ◌++◌, length, take, drop, sym, refl, ap, subst, ◌∙◌, arith, append_assoc, length-append, length-take, min, MatchBool}
-use Rattle.std.specs.List.{concat}
+use Rattle.std.proofs.Common.{◌≡◌, ℕ, ◌+◌, ◌-◌, ◌<◌, ◌≤◌, ◌↔◌, Bool, true, false, cond, not, eqb, ◌||◌, inl, inr, List, [], ◌∷◌, ◌++◌, length, take, drop, sym, refl, ap, subst, ◌∙◌, arith, append_assoc, length-append, length-take, one-add, min}
+use Rattle.std.specs.List.{concat, position_or_len}
 use Rattle.std.specs.Io.BufRead.{take_through}
-use Rattle.std.proofs.lemmas.List.{append-nil, take_all, take-take, take-append-le, take-append-drop, length-take-le}
+use Rattle.std.proofs.lemmas.List.{append-nil, take_all, take-take, take-append-le, take-append-drop, take_min, length-take-le}
+use Rattle.std.proofs.Math.Seq.{take-append-add}
 use Rattle.std.proofs.lemmas.Bool.{or_parts, or_from, cases_Bool, cases_lt, false≢true, eqb-true, ne_eqb, MatchBool-at_true, MatchBool-at_false}
 use Rattle.pc_wire.specs.Lines.{is_feed, has_feed, lines_of, before_feed, without_return}
 use Rattle.pc_wire.specs.LineFeed.{FeedState, fed, Feeds, FeedsAll, IsOver}
@@ -10,6 +11,7 @@ use Rattle.pc_wire.specs.Next.{ShowsLine, ShowsNext, ShowsLast}
 use Rattle.pc_wire.specs.declared.line_feed.Next.{Next}
 use Rattle.pc_wire.specs.declared.line_feed.Next.TheVariants.{Line, More, TooLong}
 use Rattle.pc_wire.proofs.LineLemmas.{has_feed-append, open-append, lines_of-feed, return_or_none, before_feed-feed}
+use Rattle.pc_wire.proofs.PlaceLemmas.{place-within}
 
 pub before_feed-append : (since piece : List ℕ) → has_feed since ≡ false → before_feed (since ++ piece) ≡ since ++ before_feed piece
 before_feed-append [] piece h = refl
@@ -87,9 +89,9 @@ fed-past limit since piece e = rw (before_feed-past since piece e, has_feed-appe
 -- a piece goes on where the bytes since the last line ended
 pub fed-more : (limit : ℕ) (since : List ℕ) (new : FeedState) (piece : List ℕ) (count : ℕ) → Feeds (fed limit since) new piece count → new ≡ fed limit (since ++ piece)
 fed-more limit since new piece count f = elim (cases_Bool (has_feed since)) [
-    inl e ↦ (f.waits e).1 ∙ sym (fed-past limit since piece e)
+  | inl e ↦ (f.waits e).1 ∙ sym (fed-past limit since piece e)
   | inr e ↦ (f.takes e).1 ∙ fed-append limit since piece e
-  ]
+]
 
 pub fed-pieces : (limit : ℕ) (since : List ℕ) (new : FeedState) (pieces : List (List ℕ)) → FeedsAll (fed limit since) new pieces → new ≡ fed limit (since ++ concat pieces)
 fed-pieces limit since new [] f = f ∙ ap (fed limit) (sym (append-nil since))
@@ -101,21 +103,21 @@ fed-pieces limit since new (piece ∷ pieces) (middle, (count, f)) =
 -- what follows the first LF of a piece doesn't count
 before_feed-take_through : (piece : List ℕ) → before_feed (take_through 10 piece) ≡ before_feed piece
 before_feed-take_through piece = elim (cases_Bool (has_feed piece)) [
-    inl e ↦ ap before_feed (take_through-feed piece e) ∙ before_feed-feed (before_feed piece) [] (open-before_feed piece)
+  | inl e ↦ ap before_feed (take_through-feed piece e) ∙ before_feed-feed (before_feed piece) [] (open-before_feed piece)
   | inr e ↦ ap before_feed (take_through-open piece e)
-  ]
+]
 
 has_feed-take_through : (piece : List ℕ) → has_feed (take_through 10 piece) ≡ has_feed piece
 has_feed-take_through piece = elim (cases_Bool (has_feed piece)) [
-    inl e ↦ ap has_feed (take_through-feed piece e) ∙ has_feed-append (before_feed piece) (10 ∷ []) ∙ ap (λ t. t || true) (open-before_feed piece) ∙ sym e
+  | inl e ↦ ap has_feed (take_through-feed piece e) ∙ has_feed-append (before_feed piece) (10 ∷ []) ∙ ap (λ t. t || true) (open-before_feed piece) ∙ sym e
   | inr e ↦ ap has_feed (take_through-open piece e)
-  ]
+]
 
 pub fed-taken : (limit : ℕ) (since : List ℕ) (new : FeedState) (piece : List ℕ) (count : ℕ) → Feeds (fed limit since) new piece count → new ≡ fed limit (since ++ take count piece)
 fed-taken limit since new piece count f = elim (cases_Bool (has_feed since)) [
-    inl e ↦ (f.waits e).1 ∙ sym (fed-past limit since (take count piece) e)
+  | inl e ↦ (f.waits e).1 ∙ sym (fed-past limit since (take count piece) e)
   | inr e ↦ takes e
-  ]
+]
   where
     takes : has_feed since ≡ false → new ≡ fed limit (since ++ take count piece)
     takes e =
@@ -144,9 +146,9 @@ fed-goes_on limit since new piece count e f whole =
 -- at most one byte is taken off
 pub length-without_return : (bytes : List ℕ) → (length (without_return bytes) ≤ length bytes) × (length bytes ≤ length (without_return bytes) + 1)
 length-without_return bytes = elim (return_or_none bytes) [
-    inl e ↦ (omega (arith, ap length e, length-append (without_return bytes) (13 ∷ [])), omega (arith, ap length e, length-append (without_return bytes) (13 ∷ [])))
+  | inl e ↦ (omega (arith, ap length e, length-append (without_return bytes) (13 ∷ [])), omega (arith, ap length e, length-append (without_return bytes) (13 ∷ [])))
   | inr e ↦ (omega (arith, ap length e), omega (arith, ap length e))
-  ]
+]
 
 -- what passes the limit shows as any other line that does
 ShowsLine-past : (limit : ℕ) (line other : List ℕ) (shown : Next) → limit < length line → limit < length other → ShowsLine limit line shown → ShowsLine limit other shown
@@ -157,15 +159,15 @@ ShowsLine-past limit line other TooLong past over shows = over
 -- two bytes past the limit are enough to tell
 pub ShowsLine-cut : (limit : ℕ) (line : List ℕ) (shown : Next) → ShowsLine limit (without_return (take (limit + 2) line)) shown → ShowsLine limit (without_return line) shown
 ShowsLine-cut limit line shown shows = elim (cases_lt (limit + 2) (length line)) [
-    inl h ↦ ShowsLine-past limit (without_return (take (limit + 2) line)) (without_return line) shown (omega (arith, length-take-le (limit + 2) line (omega arith), length-without_return (take (limit + 2) line))) (omega (arith, length-without_return line)) shows
+  | inl h ↦ ShowsLine-past limit (without_return (take (limit + 2) line)) (without_return line) shown (omega (arith, length-take-le (limit + 2) line (omega arith), length-without_return (take (limit + 2) line))) (omega (arith, length-without_return line)) shows
   | inr h ↦ rw (take_all (limit + 2) line h) at shows
-  ]
+]
 
 ShowsLine-cut_whole : (limit : ℕ) (line : List ℕ) (shown : Next) → ShowsLine limit (take (limit + 2) line) shown → ShowsLine limit line shown
 ShowsLine-cut_whole limit line shown shows = elim (cases_lt (limit + 2) (length line)) [
-    inl h ↦ ShowsLine-past limit (take (limit + 2) line) line shown (omega (arith, length-take-le (limit + 2) line (omega arith))) (omega arith) shows
+  | inl h ↦ ShowsLine-past limit (take (limit + 2) line) line shown (omega (arith, length-take-le (limit + 2) line (omega arith))) (omega arith) shows
   | inr h ↦ rw (take_all (limit + 2) line h) at shows
-  ]
+]
 
 pub fed-shows : (limit : ℕ) (since : List ℕ) (new : FeedState) (piece : List ℕ) (count : ℕ) (shown : Next) → has_feed since ≡ false → Feeds (fed limit since) new piece count → new.is_whole ≡ true → ShowsNext new shown → ShowsLine limit (without_return (since ++ before_feed piece)) shown
 fed-shows limit since new piece count shown e f whole shows =
@@ -193,9 +195,9 @@ without_return-append bytes (b ∷ bs) =
 -- the cut leaves what tells whether the line passes the limit
 past_cut : (limit : ℕ) (line : List ℕ) → limit < length (without_return (take (limit + 2) line)) ↔ limit < length (without_return line)
 past_cut limit line = elim (cases_lt (limit + 2) (length line)) [
-    inl h ↦ (λ _. omega (arith, length-without_return line), λ _. omega (arith, length-take-le (limit + 2) line (omega arith), length-without_return (take (limit + 2) line)))
+  | inl h ↦ (λ _. omega (arith, length-without_return line), λ _. omega (arith, length-take-le (limit + 2) line (omega arith), length-without_return (take (limit + 2) line)))
   | inr h ↦ rw (take_all (limit + 2) line h) (λ p. p, λ p. p)
-  ]
+]
 
 pub over_stays : (limit : ℕ) (since : List ℕ) → has_feed since ≡ false → (IsOver (fed limit since) ↔ ((more : List ℕ) → limit < length (without_return (since ++ more))))
 over_stays limit since e =
@@ -203,3 +205,55 @@ over_stays limit since e =
       λ over more. omega (arith, (past_cut limit since).0 over.1, without_return-append since more),
       λ always. (e, (past_cut limit since).1 (omega (arith, always [], ap (λ all. length (without_return all)) (append-nil since)))),
     )
+
+-- the place of the LF, or the length where there is none
+pub before_feed-is : (piece : List ℕ) → before_feed piece ≡ take (position_or_len is_feed piece) piece
+before_feed-is [] = refl
+before_feed-is (b ∷ bs) = by_test (is_feed b) (before_feed-is bs)
+  where
+    by_test : (t : Bool) → before_feed bs ≡ take (position_or_len is_feed bs) bs → cond t [] (b ∷ before_feed bs) ≡ take (cond (not t) (1 + position_or_len is_feed bs) 0) (b ∷ bs)
+    by_test true rest = refl
+    by_test false rest = rw (one-add (position_or_len is_feed bs)) (ap (λ bytes. b ∷ bytes) rest)
+
+place-open : (piece : List ℕ) → position_or_len is_feed piece ≡ length piece → has_feed piece ≡ false
+place-open [] e = refl
+place-open (b ∷ bs) e = by_test (is_feed b) e (place-open bs)
+  where
+    by_test : (t : Bool) → cond (not t) (1 + position_or_len is_feed bs) 0 ≡ length (b ∷ bs) → (position_or_len is_feed bs ≡ length bs → has_feed bs ≡ false) → (t || has_feed bs) ≡ false
+    by_test true e rest = absurd (omega arith)
+    by_test false e rest = rest (omega arith)
+
+open-place : (piece : List ℕ) → has_feed piece ≡ false → position_or_len is_feed piece ≡ length piece
+open-place [] h = refl
+open-place (b ∷ bs) h =
+    let p = or_parts (is_feed b) (has_feed bs) h in rw p.0 (omega (arith, open-place bs p.1))
+
+-- what `feed` does, told by the place of the LF
+pub Feeds-place : (old new : FeedState) (piece : List ℕ) (count place : ℕ) (is_whole : Bool) → old.is_whole ≡ false → place ≡ position_or_len is_feed piece → new ≡ record { limit = old.limit; text = take (old.limit + 2) (old.text ++ take place piece); is_whole = is_whole } → is_whole ≡ has_feed piece → count ≡ length (take_through 10 piece) → Feeds old new piece count
+Feeds-place old new piece count place is_whole still at is has taken = record {
+  waits = λ whole. absurd (false≢true (sym still ∙ whole));
+  takes = λ _. (taken, is ∙ rw (has, at, before_feed-is piece) refl);
+}
+
+-- no LF: the whole piece is taken
+pub Feeds-all : (old new : FeedState) (piece : List ℕ) (place : ℕ) → old.is_whole ≡ false → place ≡ position_or_len is_feed piece → place ≡ length piece → new ≡ record old { text = take (old.limit + 2) (old.text ++ take place piece) } → Feeds old new piece place
+Feeds-all old new piece place still at all is =
+    let none : has_feed piece ≡ false = place-open piece (sym at ∙ all) in
+    Feeds-place old new piece place place old.is_whole still at is (still ∙ sym none) (all ∙ sym (ap length (take_through-open piece none)))
+
+-- an LF: it's taken too
+pub Feeds-whole : (old new : FeedState) (piece : List ℕ) (place : ℕ) → old.is_whole ≡ false → place ≡ position_or_len is_feed piece → (place ≡ length piece → ⊥) → new ≡ record { limit = old.limit; text = take (old.limit + 2) (old.text ++ take place piece); is_whole = true } → Feeds old new piece (place + 1)
+Feeds-whole old new piece place still at some is = elim (cases_Bool (has_feed piece)) [
+  | inl has ↦ Feeds-place old new piece (place + 1) place true still at is (sym has) (omega (arith, at, ap length (take_through-feed piece has), length-append (before_feed piece) (10 ∷ []), ap length (before_feed-is piece), length-take-le (position_or_len is_feed piece) piece (place-within is_feed piece)))
+  | inr none ↦ absurd (some (at ∙ open-place piece none))
+]
+
+-- bytes are kept as far as there is room
+pub kept_is : (n : ℕ) (text bytes : List ℕ) → length text ≤ n → text ++ take (min (n - length text) (length bytes)) bytes ≡ take n (text ++ bytes)
+kept_is n text bytes fits =
+    let room : length text + (n - length text) ≡ n = omega arith in
+    ap (λ front. text ++ front) (take_min (n - length text) bytes) ∙ sym (take-append-add text bytes (n - length text)) ∙ ap (λ m. take m (text ++ bytes)) room
+
+pub open-take : (n : ℕ) (bytes : List ℕ) → has_feed bytes ≡ false → has_feed (take n bytes) ≡ false
+open-take n bytes h =
+    (or_parts (has_feed (take n bytes)) (has_feed (drop n bytes)) (sym (has_feed-append (take n bytes) (drop n bytes)) ∙ ap has_feed (take-append-drop n bytes) ∙ h)).0

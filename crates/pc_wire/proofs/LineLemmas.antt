@@ -1,8 +1,9 @@
 -- Lines: where they end, and how they are spelled.
-use Rattle.std.proofs.Common.{◌≡◌, ℕ, ◌+◌, ◌<◌, ◌≤◌, Bool, true, false, cond, eqb, ◌&&◌, ◌||◌, ◌⊎◌, inl, inr, List, [], ◌∷◌, ◌++◌, length, take, drop, sym, refl, ap, ◌∙◌, arith, append_assoc, length-append}
+use Rattle.std.proofs.Common.{◌≡◌, ℕ, ◌+◌, ◌-◌, ◌<◌, Bool, true, false, cond, eqb, ◌&&◌, ◌||◌, ◌⊎◌, inl, inr, List, [], ◌∷◌, ◌++◌, length, take, sym, refl, ap, ◌∙◌, arith, append_assoc, length-append, get_or}
 use Rattle.std.specs.List.{onto_first}
 use Rattle.std.proofs.lemmas.Bool.{or_parts, and_right, cases_Bool, eqb-true}
-use Rattle.pc_wire.specs.Lines.{is_feed, has_feed, is_at_feed, with_byte, lines_of, before_feed, without_return, IsSpelling, AreSpellings}
+use Rattle.std.proofs.lemmas.List.{take_all, take_more, get_or_push}
+use Rattle.pc_wire.specs.Lines.{is_feed, has_feed, with_byte, lines_of, before_feed, without_return, IsSpelling, AreSpellings}
 
 -- a byte that is no LF, and no CR before one, belongs to the first line
 with_byte-other : (byte : ℕ) (at_feed : Bool) (lines : List (List ℕ)) → is_feed byte ≡ false → at_feed ≡ false → with_byte byte at_feed lines ≡ onto_first byte lines
@@ -62,9 +63,9 @@ return_or_none (b ∷ c ∷ cs) =
 
 pub open-without_return : (bytes : List ℕ) → has_feed bytes ≡ false → has_feed (without_return bytes) ≡ false
 open-without_return bytes h = elim (return_or_none bytes) [
-    inl e ↦ (or_parts (has_feed (without_return bytes)) (has_feed (13 ∷ [])) (sym (has_feed-append (without_return bytes) (13 ∷ [])) ∙ sym (ap has_feed e) ∙ h)).0
+  | inl e ↦ (or_parts (has_feed (without_return bytes)) (has_feed (13 ∷ [])) (sym (has_feed-append (without_return bytes) (13 ∷ [])) ∙ sym (ap has_feed e) ∙ h)).0
   | inr e ↦ rw e h
-  ]
+]
 
 -- what is spelled is a front without LF, and an LF
 pub spelled : (spelling line : List ℕ) → IsSpelling spelling line → (front : List ℕ) × (has_feed front ≡ false) × (spelling ≡ front ++ 10 ∷ []) × (without_return front ≡ line)
@@ -74,9 +75,9 @@ spelled spelling line (h, inr e) = (line, h, e.0, e.1)
 
 pub IsSpelling-front : (front : List ℕ) → has_feed front ≡ false → IsSpelling (front ++ 10 ∷ []) (without_return front)
 IsSpelling-front front h = elim (return_or_none front) [
-    inl e ↦ (open-without_return front h, inl (ap (λ bytes. bytes ++ 10 ∷ []) e ∙ append_assoc (without_return front) (13 ∷ []) (10 ∷ [])))
+  | inl e ↦ (open-without_return front h, inl (ap (λ bytes. bytes ++ 10 ∷ []) e ∙ append_assoc (without_return front) (13 ∷ []) (10 ∷ [])))
   | inr e ↦ (open-without_return front h, inr (ap (λ bytes. bytes ++ 10 ∷ []) (sym e), ap without_return e))
-  ]
+]
 
 pub lines_of-spelling : (spelling line rest : List ℕ) → IsSpelling spelling line → lines_of (spelling ++ rest) ≡ line ∷ lines_of rest
 lines_of-spelling spelling line rest h =
@@ -99,3 +100,17 @@ spellings_differ first second more other line another h k e =
     let t = spelled second another k in
     let same : s.0 ≡ t.0 = sym (before_feed-feed s.0 more s.1) ∙ ap before_feed (sym (append_assoc s.0 (10 ∷ []) more)) ∙ ap (λ bytes. before_feed (bytes ++ more)) (sym s.2) ∙ ap before_feed e ∙ ap (λ bytes. before_feed (bytes ++ other)) t.2 ∙ ap before_feed (append_assoc t.0 (10 ∷ []) other) ∙ before_feed-feed t.0 other t.1 in
     (s.2 ∙ ap (λ bytes. bytes ++ 10 ∷ []) same ∙ sym t.2, sym s.3 ∙ ap without_return same ∙ t.3)
+
+-- the last byte tells whether one is taken off
+pub without_return-returned : (bytes : List ℕ) → 0 < length bytes → get_or bytes (length bytes - 1) 0 ≡ 13 → take (length bytes - 1) bytes ≡ without_return bytes
+without_return-returned bytes some is =
+    let front = take (length bytes - 1) bytes in
+    let more : length bytes - 1 + 1 ≡ length bytes = omega arith in
+    let parts : bytes ≡ front ++ 13 ∷ [] = sym (take_all (length bytes) bytes (omega arith)) ∙ ap (λ n. take n bytes) (sym more) ∙ take_more bytes (length bytes - 1) 0 (omega arith) ∙ ap (λ byte. front ++ byte ∷ []) is in
+    sym (ap without_return parts ∙ without_return-push front)
+
+pub without_return-other : (bytes : List ℕ) → (get_or bytes (length bytes - 1) 0 ≡ 13 → ⊥) → bytes ≡ without_return bytes
+without_return-other bytes other = elim (return_or_none bytes) [
+  | inl e ↦ absurd (other (ap (λ all. get_or all (length bytes - 1) 0) e ∙ get_or_push (without_return bytes) 13 0 (length bytes - 1) (omega (arith, ap length e, length-append (without_return bytes) (13 ∷ [])))))
+  | inr e ↦ sym e
+]

@@ -1,8 +1,9 @@
 -- Words: where they begin and end.
-use Rattle.std.proofs.Common.{◌≡◌, ℕ, ◌+◌, ◌<◌, ◌≤◌, Bool, true, false, cond, not, List, [], ◌∷◌, ◌++◌, length, take, drop, sym, refl, ap, ◌∙◌, arith, one-add}
-use Rattle.std.specs.List.{onto_first, prefix_len, position_or_len}
+use Rattle.std.proofs.Common.{◌≡◌, ℕ, ◌+◌, ◌<◌, Bool, true, false, cond, not, List, [], ◌∷◌, length, take, drop, sym, refl, ap, ◌∙◌, arith, one-add}
+use Rattle.std.specs.List.{onto_first, position_or_len}
 use Rattle.std.proofs.lemmas.Bool.{false≢true}
-use Rattle.pc_wire.specs.Words.{is_space, is_between, with_byte, words_of, without_spaces, from_space, after_word}
+use Rattle.std.proofs.lemmas.List.{nil_from_length}
+use Rattle.pc_wire.specs.Words.{is_space, is_between, words_of, without_spaces, from_space, after_word}
 
 -- the text before its first space
 pub until_space : List ℕ → List ℕ
@@ -63,3 +64,18 @@ without_spaces-is (b ∷ bs) = by_test (is_space b) (without_spaces-is bs)
     by_test : (t : Bool) → without_spaces bs ≡ drop (position_or_len (λ byte. not (is_space byte)) bs) bs → cond t (without_spaces bs) (b ∷ bs) ≡ drop (cond (not (not t)) (1 + position_or_len (λ byte. not (is_space byte)) bs) 0) (b ∷ bs)
     by_test true rest = rw (one-add (position_or_len (λ byte. not (is_space byte)) bs)) rest
     by_test false rest = refl
+
+-- where nothing is left but spaces there is no word
+pub words_of-none : (text left : List ℕ) → left ≡ without_spaces text → length left ≡ 0 → words_of text ≡ []
+words_of-none text left e none =
+    sym (words_of-without_spaces text) ∙ ap words_of (sym e ∙ nil_from_length left none)
+
+-- what is left is cut at its first space
+pub words_of-cut : (text left word rest : List ℕ) (place : ℕ) → left ≡ without_spaces text → 0 < length left → place ≡ position_or_len is_space left → word ≡ take place left → rest ≡ drop place left → (words_of text ≡ word ∷ words_of rest) × (rest ≡ after_word text)
+words_of-cut text left word rest place e some at front back =
+    let begins : is_between left ≡ false = ap is_between e ∙ without_spaces-begins text (omega (arith, ap length e)) in
+    let until : word ≡ until_space left = front ∙ ap (λ n. take n left) at ∙ sym (until_space-is left) in
+    let from : rest ≡ from_space left = back ∙ ap (λ n. drop n left) at ∙ sym (from_space-is left) in (
+      sym (words_of-without_spaces text) ∙ ap words_of (sym e) ∙ words_of-first left begins ∙ rw (← until, ← from) refl,
+      from ∙ ap from_space e,
+    )

@@ -1,5 +1,5 @@
 -- The lines of a text. An LF, byte 10, ends a line; a CR, byte 13, directly before it is no part of the line.
-use Rattle.std.specs.Prelude.{◌≡◌, ℕ, Bool, true, false, ◌==◌, ◌&&◌, List, [], ◌∷◌, ◌++◌, ◌⊎◌, if◌then◌else◌}
+use Rattle.std.specs.Prelude.{◌≡◌, ℕ, Bool, false, ◌==◌, ◌&&◌, List, [], ◌∷◌, ◌++◌, ◌⊎◌, if◌then◌else◌}
 use Rattle.std.specs.List.{list_any, onto_first}
 
 -- an LF

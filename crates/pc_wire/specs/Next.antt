@@ -1,5 +1,5 @@
 -- What a line feed shows.
-use Rattle.std.specs.Prelude.{◌≡◌, ℕ, ◌<◌, ◌≤◌, Bool, true, false, ◌||◌, ◌==◌, List, [], ◌∷◌, length, MatchBool}
+use Rattle.std.specs.Prelude.{◌≡◌, ℕ, ◌<◌, ◌≤◌, false, ◌||◌, ◌==◌, List, length, MatchBool}
 use Rattle.pc_wire.specs.Lines.{has_feed, without_return}
 use Rattle.pc_wire.specs.LineFeed.{FeedState}
 use Rattle.pc_wire.specs.declared.line_feed.Next.{Next}

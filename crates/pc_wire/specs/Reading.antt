@@ -28,11 +28,11 @@ IsHeld Begun feed = feed ≡ fed feed.limit feed.text
 IsHeld Whole feed = feed.is_whole ≡ true
 IsHeld Last feed = (feed.is_whole ≡ false) × (0 < length feed.text)
 
--- a read into an empty buffer, which answers whether there are bytes in it now
-abbrev pub Fills : Option (List ℕ) → Option (List ℕ) → List ℕ → Result Bool Failed → Type 0
-Fills left left' bytes (Ok true) = Consumes left left' bytes × (0 < length bytes)
-Fills left left' bytes (Ok false) = (bytes ≡ []) × Keeps left left' × IsAtEnd left'
-Fills left left' bytes (Err e) = (bytes ≡ []) × Keeps left left'
+-- a call of `fill` leaves these bytes in the buffer, and loses none
+abbrev pub Fills : List ℕ → Option (List ℕ) → Option (List ℕ) → Result Bool Failed → Type 0
+Fills bytes before after (Ok true) = Keeps before after × (0 < length bytes)
+Fills bytes before after (Ok false) = Keeps before after × (bytes ≡ []) × IsAtEnd after
+Fills bytes before after (Err e) = Keeps before after
 
 -- at least so many bytes without LF were taken, and the feed holds them after those that it held
 pub record TakesOpen (limit : ℕ) (begun : List ℕ) (feed : FeedState) (before after : Option (List ℕ)) (count : ℕ) : Type 0 where

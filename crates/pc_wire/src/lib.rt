@@ -5,6 +5,7 @@ mod fetched;
 pub mod laws;
 mod line_feed;
 mod line_reader;
+mod places;
 mod read_buffer;
 mod words;
 

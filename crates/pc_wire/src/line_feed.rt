@@ -1,11 +1,11 @@
 //! Lines that come in pieces.
 
 ghost use Rattle.std.specs.Prelude.{◌≡◌, ◌+◌, ◌<◌, ◌≤◌, ◌↔◌, IsTrue, false, [], ◌++◌, length, take};
-ghost use Rattle.std.specs.List.{position_or_len};
-ghost use Rattle.pc_wire.specs.Lines.{is_feed, has_feed, without_return as unreturned};
+ghost use Rattle.pc_wire.specs.Lines.{has_feed, without_return as unreturned};
 ghost use Rattle.pc_wire.specs.LineFeed.{fed, Feeds, IsOver};
 ghost use Rattle.pc_wire.specs.Next.{ShowsLine, ShowsNext, ShowsLast};
 
+use crate::places::first_place;
 use arrayvec::ArrayVec;
 use std::marker::Model;
 
@@ -63,7 +63,7 @@ impl LineFeed {
         if self.is_whole {
             return 0;
         }
-        let end = first_feed(piece);
+        let end = first_place(piece, b'\n');
         self.keep(&piece[..end]);
         if end == piece.len() {
             return end;
@@ -136,18 +136,8 @@ fn within(limit: u16, line: &[u8]) -> Next<'_>
 fn without_return(bytes: &[u8]) -> &[u8]
     ensures { result.now ≡ unreturned bytes.now }
 {
-    match bytes {
-        [front @ .., b'\r'] => front,
-        _ => bytes,
-    }
-}
-
-/// The place of the first LF, or the length.
-fn first_feed(bytes: &[u8]) -> usize
-    ensures { result ≡ position_or_len is_feed bytes.now }
-{
-    bytes
-        .iter()
-        .position(|byte| *byte == b'\n')
-        .unwrap_or(bytes.len())
+    let [front @ .., last] = bytes else {
+        return bytes;
+    };
+    if *last == b'\r' { front } else { bytes }
 }

@@ -1,12 +1,12 @@
 //! Lines of a source, read through a buffer.
 
-ghost use Rattle.std.specs.Prelude.{◌≡◌, ℕ, ◌≤◌, List, [], IfOk};
+ghost use Rattle.std.specs.Prelude.{◌≡◌, ℕ, ◌≤◌, List, [], drop, IfOk};
 ghost use Rattle.std.specs.Io.KnownBytes.{prepend_known};
 ghost use Rattle.pc_base.specs.Stream.{HasCause};
-ghost use Rattle.pc_wire.specs.LineFeed.{fed};
+ghost use Rattle.pc_wire.specs.LineFeed.{Feeds};
 ghost use Rattle.pc_wire.specs.Next.{ShowsLine};
 ghost use Rattle.pc_wire.specs.Reader.{no_line, waiting, Fetches, ShowsWaiting};
-ghost use Rattle.pc_wire.specs.Reading.{Seeks};
+ghost use Rattle.pc_wire.specs.Reading.{IsHeld, Seeks};
 
 use crate::fetched::{Fetched, Held};
 use crate::line_feed::{LineFeed, Next};
@@ -98,27 +98,34 @@ impl LineReader {
 
 /// Feeds what is ahead and what the source gives, up to an LF or the end.
 fn seek_feed<S: Source>(buffer: &mut ReadBuffer, feed: &mut LineFeed, source: &mut S) -> Result<Fetched, Failed>
-    requires { feed.old ≡ fed feed.old.limit feed.old.text }
+    requires { IsHeld Held.Begun feed.old }
     ensures bytes { Seeks feed.old.limit feed.old.text feed.new
         (prepend_known buffer.old (S.left source.old)) (prepend_known buffer.new (S.left source.new)) result }
+    ensures drained { result ≡ Ok Fetched.End → buffer.new ≡ [] }
     ensures cause { HasCause (S.faults source.old) (S.faults source.new) result }
 {
     for _turn in 0..u64::MAX {
-        if buffer.bytes().is_empty() {
-            let Ok(is_filled) = buffer.fill(source) else {
-                return Err(Failed);
-            };
-            if !is_filled {
-                return Ok(Fetched::End);
-            }
+        let Ok(is_filled) = buffer.fill(source) else {
+            return Err(Failed);
+        };
+        if !is_filled {
+            return Ok(Fetched::End);
         }
-        let count = feed.feed(buffer.bytes());
-        buffer.skip(count);
-        if !matches!(feed.next(), Next::More) {
+        if feed_ahead(buffer, feed) {
             return Ok(Fetched::Waits);
         }
     }
     Ok(Fetched::Endless)
+}
+
+/// Feeds what is ahead, up to an LF, and answers whether one came.
+fn feed_ahead(buffer: &mut ReadBuffer, feed: &mut LineFeed) -> bool
+    ensures whole { result ≡ feed.new.is_whole }
+    ensures bytes { (count : ℕ) × (Feeds feed.old feed.new buffer.old count × (buffer.new ≡ drop count buffer.old)) }
+{
+    let count = feed.feed(buffer.bytes());
+    buffer.skip(count);
+    !matches!(feed.next(), Next::More)
 }
 
 #[cfg(test)]

@@ -1,6 +1,7 @@
 //! Bytes read ahead.
 
 ghost use Rattle.std.specs.Prelude.{◌≡◌, ◌≤◌, [], IfOk, drop, length};
+ghost use Rattle.std.specs.Io.KnownBytes.{prepend_known};
 ghost use Rattle.pc_base.specs.Stream.{HasCause};
 ghost use Rattle.pc_wire.specs.Reading.{Fills};
 
@@ -41,14 +42,17 @@ impl ReadBuffer {
         })
     }
 
-    /// Reads once, and answers whether bytes came. None means that the source is at its end.
+    /// Reads once where nothing is ahead, and answers whether bytes are ahead now. None means that the
+    /// source is at its end.
     pub fn fill<S: Source>(&mut self, source: &mut S) -> Result<bool, Failed>
-        requires { self.old ≡ [] }
-        ensures bytes { Fills (S.left source.old) (S.left source.new) self.new result }
+        ensures bytes { Fills self.new
+            (prepend_known self.old (S.left source.old)) (prepend_known self.new (S.left source.new)) result }
         ensures cause { HasCause (S.faults source.old) (S.faults source.new) result }
     {
+        if self.start < self.end {
+            return Ok(true);
+        }
         let Ok(count) = source.read(self.bytes.as_mut_slice()) else {
-            self.start = self.end;
             return Err(Failed);
         };
         self.start = 0;

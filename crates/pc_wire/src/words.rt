@@ -1,8 +1,9 @@
 //! Words, which one or more spaces separate.
 
-ghost use Rattle.std.specs.Prelude.{◌≡◌, [], ◌∷◌, MatchOption, not};
-ghost use Rattle.std.specs.List.{position_or_len};
-ghost use Rattle.pc_wire.specs.Words.{words_of, after_word, is_space, without_spaces as spaceless};
+ghost use Rattle.std.specs.Prelude.{◌≡◌, ◌≤◌, [], ◌∷◌, MatchOption, drop, length};
+ghost use Rattle.pc_wire.specs.Words.{words_of, after_word, without_spaces as spaceless};
+
+use crate::places::first_place;
 
 /// The first word and what follows it, if there is a word. What follows begins with a space or is empty.
 pub fn next_word(text: &[u8]) -> Option<(&[u8], &[u8])>
@@ -13,7 +14,7 @@ pub fn next_word(text: &[u8]) -> Option<(&[u8], &[u8])>
     if text.is_empty() {
         return None;
     }
-    Some(text.split_at(first_space(text)))
+    Some(text.split_at(first_place(text, b' ')))
 }
 
 /// The text without the spaces that it begins with.
@@ -25,18 +26,10 @@ pub fn without_spaces(text: &[u8]) -> &[u8]
 
 /// How many spaces the text begins with.
 fn leading_spaces(text: &[u8]) -> usize
-    ensures { result ≡ position_or_len (λ byte. not (is_space byte)) text.now }
+    ensures rest { drop result text.now ≡ spaceless text.now }
+    ensures within { result ≤ length text.now }
 {
     text.iter()
         .position(|byte| *byte != b' ')
-        .unwrap_or(text.len())
-}
-
-/// The place of the first space, or the text's length.
-fn first_space(text: &[u8]) -> usize
-    ensures { result ≡ position_or_len is_space text.now }
-{
-    text.iter()
-        .position(|byte| *byte == b' ')
         .unwrap_or(text.len())
 }
