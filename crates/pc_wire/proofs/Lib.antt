@@ -2,4 +2,5 @@ pub mod PlaceLemmas
 pub mod LineLemmas
 pub mod FeedLemmas
 pub mod WordLemmas
+pub mod ReaderLemmas
 mod Samples

@@ -1,12 +1,17 @@
 //! Lines, words, and lines that come in pieces.
 #![tactic(auto)]
 
+mod fetched;
 pub mod laws;
 mod line_feed;
+mod line_reader;
 mod places;
+mod read_buffer;
 mod words;
 
+pub use fetched::Fetched;
 pub use line_feed::{LineFeed, Next};
+pub use line_reader::LineReader;
 pub use words::{next_word, without_spaces};
 
 #[cfg(test)]
