@@ -3,10 +3,13 @@
 
 mod event;
 mod reading;
+mod replaying;
 mod repository;
+mod turn;
 mod world;
 
 pub use event::{Asked, Event, EventFault};
 pub use reading::read_event;
+pub use replaying::{ReplayEnd, replay};
 pub use repository::Reply;
 pub use world::World;
