@@ -1,3 +1,4 @@
 pub mod Asking
 pub mod OneEvent
 pub mod Playing
+pub mod Stopped

@@ -1,15 +1,17 @@
 -- What a replay keeps from line to line, and what it comes to at each end.
-use Rattle.std.proofs.Common.{◌≡◌, ℕ, ◌+◌, ◌-◌, ◌^◌, ◌≤◌, ◌<◌, Bool, true, false, IsTrue, is_some, List, [], ◌∷◌, ◌++◌, length, take, drop, Option, Some, None, IfSome, MatchOption, ◌⊎◌, inl, inr, refl, sym, ap, ◌∙◌, subst, arith, append-nil, append_assoc, length-append}
+use Rattle.std.proofs.Common.{◌≡◌, ℕ, ◌+◌, ◌-◌, ◌^◌, ◌≤◌, ◌<◌, Bool, true, false, IsTrue, is_some, List, [], ◌∷◌, ◌++◌, length, take, drop, Option, Some, None, IfSome, MatchOption, Result, Ok, Err, IsOk, ◌⊎◌, inl, inr, refl, sym, ap, ◌∙◌, subst, arith, append-nil, append_assoc, length-append}
 use Rattle.std.proofs.lemmas.List.{take-append-drop, take_all}
 use Rattle.std.proofs.lemmas.List.Concat.{flat_map-append}
 use Rattle.std.specs.Io.KnownBytes.{Appends, prepend_known}
 use Rattle.std.proofs.KnownBytes.{Appends-nil, Appends-trans}
+use Rattle.std.proofs.lemmas.Bool.{false≢true}
+use Rattle.pc_base.specs.declared.failure.Failed.{Failed}
 use Rattle.pc_base.specs.Stream.{AppendsFront, Rose}
 use Rattle.pc_wire.specs.Lines.{lines_of}
 use Rattle.pc_wire.specs.Reader.{IfTold}
 use Rattle.pc_world.specs.Account.{Account}
 use Rattle.pc_world.specs.Runs.{Plays, Chain, Begins, GoesOn, IsRun, IsOfForm, IsRefused, IsFront, lines_in, text_of, ended, most_lines}
-use Rattle.pc_world.specs.Replay.{Stops, Finishes, Writes, Ends, Completes, IsComplete}
+use Rattle.pc_world.specs.Replay.{Stops, Finishes, Sends, Writes, Ends, Completes, IsComplete}
 use Rattle.pc_world.specs.declared.replaying.ReplayEnd.{ReplayEnd}
 use Rattle.pc_world.specs.declared.replaying.ReplayEnd.TheVariants.{Done, Refused, ReadFault, WriteFault, Memory}
 
@@ -106,6 +108,17 @@ IsPlayed-sent script unread before after after' world pending count played sent 
   text = append-nil (played.out ++ pending) ∙ played.text;
 }
 
+pub IsPlayed-passed : (script unread before after after' : Option (List ℕ)) (world : List Account) (pending pending' : List ℕ) (count : ℕ) (result : Result Unit Failed)
+    → IsPlayed script unread before after world pending count → IsOk result → Sends after after' pending pending' result → IsPlayed script unread before after' world pending' count
+IsPlayed-passed script unread before after after' world pending pending' count (Ok done) played fine (inl kept) =
+    let P : Option (List ℕ) → Type 0 = λ written. IsPlayed script unread before written world pending' count in
+    let Q : List ℕ → Type 0 = λ text. IsPlayed script unread before after world text count in
+    subst P (sym kept.1) (subst Q (sym kept.0) played)
+IsPlayed-passed script unread before after after' world pending pending' count (Ok done) played fine (inr sent) =
+    let Q : List ℕ → Type 0 = λ text. IsPlayed script unread before after' world text count in
+    subst Q (sym sent.0) (IsPlayed-sent script unread before after after' world pending count played sent.1)
+IsPlayed-passed script unread before after after' world pending pending' count (Err failed) played fine sends = absurd (false≢true fine)
+
 -- a front of a transcript was written, whatever of what is pending
 front_written : (script unread before after after' : Option (List ℕ)) (world : List Account) (pending : List ℕ) (count shown : ℕ)
     → IsPlayed script unread before after world pending count → Appends after after' (take shown pending) → Writes script before after' IsFront
@@ -198,6 +211,9 @@ Ends-done script left unread before after after' ahead world pending count fault
 abbrev pub StopsAt : List Account → ℕ → List ℕ → Type 0
 StopsAt world number bytes = (line : List ℕ) × ((rest : List (List ℕ)) × ((lines_of bytes ≡ line ∷ rest) × (number ≤ most_lines → GoesOn world (line ∷ rest) → ⊥)))
 
+number_is : (front : List (List ℕ)) (line : List ℕ) (rest all : List (List ℕ)) (count : ℕ) → length front ≡ count → all ≡ front ++ line ∷ rest → count + 1 + length rest ≡ length all
+number_is front line rest all count counted split = omega (arith, ap length split, length-append front (line ∷ rest), counted)
+
 refused : (script left unread before after after' : Option (List ℕ)) (world : List Account) (pending : List ℕ) (count : ℕ)
     → IsPlayed script unread before after world pending count
     → count ≤ most_lines
@@ -223,9 +239,6 @@ refused (Some bytes) left (Some unread) before after after' world pending count 
         text_is = played.text;
         stops = stops.1.1.1;
       }))
-where
-    number_is : (front : List (List ℕ)) (line : List ℕ) (rest all : List (List ℕ)) (count : ℕ) → length front ≡ count → all ≡ front ++ line ∷ rest → count + 1 + length rest ≡ length all
-    number_is front line rest all count counted split = omega (arith, ap length split, length-append front (line ∷ rest), counted)
 
 pub Ends-refused : (script left unread before after after' : Option (List ℕ)) (world : List Account) (pending : List ℕ) (count faults faults' : ℕ) (result : ReplayEnd)
     → IsPlayed script unread before after world pending count

@@ -1,6 +1,7 @@
 -- How a replay goes on, and how it ends.
-use Rattle.std.specs.Prelude.{◌≡◌, ℕ, List, [], ◌∷◌, ◌++◌, Option, Some, IfSome, ◌⊎◌}
+use Rattle.std.specs.Prelude.{◌≡◌, ℕ, List, [], ◌∷◌, ◌++◌, Option, Some, IfSome, Result, Ok, Err, ◌⊎◌}
 use Rattle.std.specs.Io.KnownBytes.{Appends}
+use Rattle.pc_base.specs.declared.failure.Failed.{Failed}
 use Rattle.pc_base.specs.Stream.{AppendsFront, Rose}
 use Rattle.pc_wire.specs.Lines.{lines_of}
 use Rattle.pc_wire.specs.Reader.{IfTold}
@@ -33,6 +34,11 @@ TakesTurn old new text text' before after turn.Ended =
 TakesTurn old new text text' before after turn.Refused = IfSome before (Stops old) × (text' ≡ text)
 TakesTurn old new text text' before after turn.ReadFault = text' ≡ text
 TakesTurn old new text text' before after turn.Memory = text' ≡ text
+
+-- the text was written and let go, or nothing was done, or the output failed
+abbrev pub Sends : Option (List ℕ) → Option (List ℕ) → List ℕ → List ℕ → Result Unit Failed → Type 0
+Sends before after text text' (Ok done) = ((text' ≡ text) × (after ≡ before)) ⊎ ((text' ≡ []) × Appends before after text)
+Sends before after text text' (Err failed) = AppendsFront before after text
 
 -- the text was written and this is the end, or the output failed
 abbrev pub Finishes : Option (List ℕ) → Option (List ℕ) → ℕ → ℕ → List ℕ → ReplayEnd → ReplayEnd → Type 0

@@ -1,9 +1,9 @@
 //! The replay of a script: its lines are read, played and written as a transcript.
 
-ghost use Rattle.std.specs.Prelude.{◌≡◌, ◌≤◌, [], ◌++◌, OnOk, OnErr, IfOk, length, take};
-ghost use Rattle.pc_base.specs.Stream.{Rose, HasCause, WritesAll};
+ghost use Rattle.std.specs.Prelude.{◌≡◌, ℕ, ◌≤◌, List, ◌++◌, OnOk, OnErr, length, take};
+ghost use Rattle.pc_base.specs.Stream.{Rose, HasCause};
 ghost use Rattle.pc_wire.specs.Reader.{no_line, unread};
-ghost use Rattle.pc_world.specs.Replay.{PlaysLine, TakesTurn, Finishes, Ends, Completes};
+ghost use Rattle.pc_world.specs.Replay.{PlaysLine, TakesTurn, Finishes, Sends, Ends, Completes};
 ghost use Rattle.pc_world.specs.Runs.{text_of};
 
 use crate::reading::read_event;
@@ -91,8 +91,7 @@ fn finish<K: Sink>(output: &mut K, text: &Vec<u8>, end: ReplayEnd) -> ReplayEnd
 
 /// Writes the text where there is much of it.
 fn send_full<K: Sink>(output: &mut K, text: &mut Vec<u8>) -> Result<(), Failed>
-    ensures content { WritesAll (K.written output.old) (K.written output.new) result text.old.items }
-    ensures rest { OnOk result (text.new.items ≡ []) }
+    ensures content { Sends (K.written output.old) (K.written output.new) text.old.items text.new.items result }
     ensures cause { HasCause (K.faults output.old) (K.faults output.new) result }
 {
     if text.len() < FULL {
