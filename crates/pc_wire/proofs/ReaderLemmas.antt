@@ -2,16 +2,21 @@
 use Rattle.std.proofs.Common.{◌≡◌, ℕ, zero, suc, ◌+◌, ◌-◌, ◌*◌, ◌^◌, ◌<◌, ◌≤◌, Bool, true, false, cond, eqb, ltb, ◌||◌, List, [], ◌∷◌, ◌++◌, length, take, drop, slice_range, Option, Some, None, Result, Ok, Err, sym, refl, ap, subst, ◌∙◌, inl, inr, arith, append_assoc, append-nil, length-append, length-take, length-drop}
 use Rattle.std.specs.Io.KnownBytes.{prepend_known, Keeps, Consumes, IsAtEnd}
 use Rattle.std.proofs.KnownBytes.{Consumes-nil, Consumes-trans, Consumes-kept, Keeps-refl, prepend_known-end}
-use Rattle.std.proofs.lemmas.List.{take_all, take-take, take-append-le, take-append-drop, drop-drop, drop-take, length-take-le}
-use Rattle.std.proofs.lemmas.Bool.{or_parts, cases_Bool, cases_lt, false≢true, lt-ltb, ltb-true, ltb-false}
+use Rattle.std.specs.Io.BufRead.{take_through}
+use Rattle.std.proofs.lemmas.Bool.Decides.{nat_tests}
+use Rattle.std.proofs.lemmas.List.{nil_from_length, take_all, take-take, take-append-le, take-append-drop, drop-drop, drop-take, length-take-le}
+use Rattle.std.proofs.lemmas.Bool.{or_parts, cases_Bool, cases_lt, false≢true, lt-ltb, ltb-true, ltb-false, eqb-true, MatchBool-at_true, MatchBool-at_false}
 use Rattle.pc_base.specs.declared.failure.Failed.{Failed}
 use Rattle.pc_wire.specs.Lines.{is_feed, has_feed, lines_of, before_feed, without_return}
 use Rattle.pc_wire.specs.LineFeed.{FeedState, fed, Feeds}
-use Rattle.pc_wire.specs.Reader.{Waiting, no_line, long_line, this_line, waiting, IfTold, LosesExcess, BeginsLong}
-use Rattle.pc_wire.specs.Reading.{Fills, TakesOpen, Seeks, IsHeld}
+use Rattle.pc_wire.specs.Next.{ShowsLine, ShowsLast}
+use Rattle.pc_wire.specs.declared.line_feed.Next.{Next}
+use Rattle.pc_wire.specs.declared.line_feed.Next.TheVariants.{More}
+use Rattle.pc_wire.specs.Reader.{Waiting, no_line, long_line, this_line, waiting, IfTold, LosesExcess, BeginsLong, Fetches}
+use Rattle.pc_wire.specs.Reading.{state_of, Fills, TakesOpen, Seeks, IsHeld}
 use Rattle.pc_wire.specs.declared.fetched.Fetched.{Fetched}
-use Rattle.pc_wire.specs.declared.fetched.Fetched.TheVariants.{Waits}
-use Rattle.pc_wire.specs.declared.fetched.Held.TheVariants.{Begun}
+use Rattle.pc_wire.specs.declared.fetched.Fetched.TheVariants.{Waits, End, Endless}
+use Rattle.pc_wire.specs.declared.fetched.Held.TheVariants.{Begun, Last}
 use Rattle.pc_wire.proofs.LineLemmas.{lines_of-feed, lines_of-last, open-append}
 use Rattle.pc_wire.proofs.FeedLemmas.{before_feed-append, before_feed-open, open-before_feed, piece_parts, fed-more, fed-goes_on, lines_of-fed, length-without_return}
 
@@ -174,3 +179,116 @@ Seeks-line limit begun feed new before left ahead taken count t f whole =
       ap (λ bytes. waiting limit (without_return bytes)) text_is ∙ waiting-cut limit line,
       lines_of-taken begun t.taken ahead (without_return line) count before left t.consumed (λ rest. lines_of-fed limit since new ahead count rest t.no_feed g whole),
     )))
+
+-- ---- what fetch answers
+
+-- the feed's bytes stand before those of the buffer
+IfTold-held : (begun kept buffer buffer' : List ℕ) (left left' : Option (List ℕ)) (P : List ℕ → List ℕ → Type 0) → IfTold (prepend_known buffer left) (prepend_known buffer' left') (λ old new. P (begun ++ old) (kept ++ new)) → IfTold (prepend_known (begun ++ buffer) left) (prepend_known (kept ++ buffer') left') P
+IfTold-held begun kept buffer buffer' None left' P h = tt
+IfTold-held begun kept buffer buffer' (Some xs) None P h = absurd h
+IfTold-held begun kept buffer buffer' (Some xs) (Some ys) P h =
+    rw (append_assoc begun buffer xs, append_assoc kept buffer' ys) h
+
+-- what a feed holds of a line that hasn't ended
+text-open : (limit : ℕ) (feed : FeedState) (line : List ℕ) → has_feed line ≡ false → feed ≡ fed limit line → feed.text ≡ take (limit + 2) line
+text-open limit feed line h e =
+    ap (λ (state : FeedState). state.text) e ∙ ap (take (limit + 2)) (before_feed-open line h)
+
+pub TakesOpen-limit : (limit : ℕ) (begun : List ℕ) (feed : FeedState) (before after : Option (List ℕ)) (count : ℕ) → TakesOpen limit begun feed before after count → feed.limit ≡ limit
+TakesOpen-limit limit begun feed before after count t = ap (λ (state : FeedState). state.limit) t.held
+
+pub open-whole : (limit : ℕ) (begun : List ℕ) (feed : FeedState) (before after : Option (List ℕ)) (count : ℕ) → TakesOpen limit begun feed before after count → feed.is_whole ≡ false
+open-whole limit begun feed before after count t = ap (λ (state : FeedState). state.is_whole) t.held ∙ t.no_feed
+
+pub IsHeld-open : (limit : ℕ) (begun : List ℕ) (feed : FeedState) (before after : Option (List ℕ)) (count : ℕ) → TakesOpen limit begun feed before after count → IsHeld Begun feed
+IsHeld-open limit begun feed before after count t =
+    let line = begun ++ t.taken in
+    let text_is = text-open limit feed line t.no_feed t.held in
+    let limit_is = TakesOpen-limit limit begun feed before after count t in
+    t.held ∙ fed-kept limit line t.no_feed ∙ ap (fed limit) (sym text_is) ∙ ap (λ n. fed n feed.text) (sym limit_is)
+
+-- at the end what came without LF is the last line
+told_last : (begun taken : List ℕ) (before after : Option (List ℕ)) → has_feed (begun ++ taken) ≡ false → 0 < length (begun ++ taken) → Consumes before after taken → IsAtEnd after → IfTold before after (λ old new. lines_of (begun ++ old) ≡ (begun ++ taken) ∷ lines_of new)
+told_last begun taken None after h some c e = tt
+told_last begun taken (Some old) None h some c e = absurd c
+told_last begun taken (Some old) (Some new) h some c e =
+    ap (λ bytes. lines_of (begun ++ bytes)) (c ∙ ap (λ bytes. taken ++ bytes) e ∙ append-nil taken) ∙ lines_of-last (begun ++ taken) h some ∙ ap (λ bytes. (begun ++ taken) ∷ lines_of bytes) (sym e)
+
+-- where nothing came there is none
+told_none : (begun taken : List ℕ) (before after : Option (List ℕ)) → begun ++ taken ≡ [] → Consumes before after taken → IsAtEnd after → IfTold before after (λ old new. (lines_of (begun ++ old) ≡ []) × (new ≡ []))
+told_none begun taken None after none c e = tt
+told_none begun taken (Some old) None none c e = absurd c
+told_none begun taken (Some old) (Some new) none c e =
+    (ap (λ bytes. lines_of (begun ++ bytes)) (c ∙ ap (λ bytes. taken ++ bytes) e ∙ append-nil taken) ∙ ap lines_of none, e)
+
+-- of a line that goes on, what the feed holds is kept
+told_cut : (limit : ℕ) (begun taken kept : List ℕ) (before after : Option (List ℕ)) → has_feed (begun ++ taken) ≡ false → kept ≡ take (limit + 2) (begun ++ taken) → Consumes before after taken → IfTold before after (λ old new. LosesExcess limit (begun ++ old) (kept ++ new))
+told_cut limit begun taken kept None after h k c = tt
+told_cut limit begun taken kept (Some old) None h k c = absurd c
+told_cut limit begun taken kept (Some old) (Some new) h k c =
+    (begun ++ taken, (new, (h, ap (λ bytes. begun ++ bytes) c ∙ sym (append_assoc begun taken new), ap (λ bytes. bytes ++ new) k)))
+
+-- bytes without LF are a front of the first line, or all but its CR
+begins_long : (count : ℕ) (front rest : List ℕ) → has_feed front ≡ false → count + 1 ≤ length front → BeginsLong count (front ++ rest)
+begins_long count front rest h many = elim (cases_Bool (has_feed rest)) [
+  | inl e ↦ with_feed e
+  | inr e ↦ (front ++ rest, ([], (lines_of-last (front ++ rest) (open-append front rest h e) (omega (arith, length-append front rest)), omega (arith, length-append front rest))))
+]
+  where
+    with_feed : has_feed rest ≡ true → BeginsLong count (front ++ rest)
+    with_feed e =
+        let line = front ++ before_feed rest in
+        let more = drop (length (take_through 10 rest)) rest in
+        let parts : front ++ rest ≡ line ++ 10 ∷ more = ap (λ bytes. front ++ bytes) (piece_parts rest e) ∙ sym (append_assoc front (before_feed rest) (10 ∷ more)) in
+        (without_return line, (lines_of more, (ap lines_of parts ∙ lines_of-feed line more (open-append front (before_feed rest) h (open-before_feed rest)), omega (arith, length-without_return line, length-append front (before_feed rest)))))
+
+told_long : (limit count : ℕ) (begun taken kept : List ℕ) (before after : Option (List ℕ)) → has_feed (begun ++ taken) ≡ false → kept ≡ take (limit + 2) (begun ++ taken) → count + 1 ≤ length taken → Consumes before after taken → IfTold before after (λ old new. BeginsLong count (begun ++ old) × LosesExcess limit (begun ++ old) (kept ++ new))
+told_long limit count begun taken kept None after h k many c = tt
+told_long limit count begun taken kept (Some old) None h k many c = absurd c
+told_long limit count begun taken kept (Some old) (Some new) h k many c =
+    let parts : begun ++ old ≡ (begun ++ taken) ++ new = ap (λ bytes. begun ++ bytes) c ∙ sym (append_assoc begun taken new) in
+    let long = begins_long count (begun ++ taken) new h (omega (arith, length-append begun taken)) in
+    (subst (BeginsLong count) (sym parts) long, told_cut limit begun taken kept (Some old) (Some new) h k c)
+
+pub Fetches-last : (feed new : FeedState) (buffer buffer' : List ℕ) (left left' : Option (List ℕ)) → Seeks feed.limit feed.text new (prepend_known buffer left) (prepend_known buffer' left') (Ok End) → 0 < length new.text → Fetches (state_of Begun feed buffer) (state_of Last new buffer') left left' (Ok Waits)
+Fetches-last feed new buffer buffer' left left' (t, end) some =
+    let line = feed.text ++ t.taken in
+    let text_is = text-open feed.limit new line t.no_feed t.held in
+    let limit_is = ap (λ (state : FeedState). state.limit) t.held in
+    (line, (
+      ap (λ n. waiting n new.text) limit_is ∙ ap (waiting feed.limit) text_is ∙ waiting-cut_whole feed.limit line,
+      IfTold-held feed.text [] buffer buffer' left left' (λ old new. lines_of old ≡ line ∷ lines_of new) (told_last feed.text t.taken (prepend_known buffer left) (prepend_known buffer' left') t.no_feed (omega (arith, ap length text_is, length-take (feed.limit + 2) line)) t.consumed end),
+    ))
+
+pub Fetches-end : (feed new : FeedState) (buffer buffer' : List ℕ) (left left' : Option (List ℕ)) → Seeks feed.limit feed.text new (prepend_known buffer left) (prepend_known buffer' left') (Ok End) → buffer' ≡ [] → new.text ≡ [] → Fetches (state_of Begun feed buffer) (state_of Begun new buffer') left left' (Ok End)
+Fetches-end feed new buffer buffer' left left' (t, end) drained none =
+    let line = feed.text ++ t.taken in
+    let text_is = sym none ∙ text-open feed.limit new line t.no_feed t.held in
+    let empty : line ≡ [] = nil_from_length line (omega (arith, ap length text_is, length-take (feed.limit + 2) line)) in
+    let told = told_none feed.text t.taken (prepend_known buffer left) (prepend_known buffer' left') empty t.consumed end in
+    (refl, ap (λ bytes. bytes ++ buffer') none ∙ drained, rw none (IfTold-held feed.text [] buffer buffer' left left' (λ old new. (lines_of old ≡ []) × (new ≡ [])) told))
+
+pub Fetches-endless : (feed new : FeedState) (buffer buffer' : List ℕ) (left left' : Option (List ℕ)) → Seeks feed.limit feed.text new (prepend_known buffer left) (prepend_known buffer' left') (Ok Endless) → Fetches (state_of Begun feed buffer) (state_of Begun new buffer') left left' (Ok Endless)
+Fetches-endless feed new buffer buffer' left left' t =
+    let text_is = text-open feed.limit new (feed.text ++ t.taken) t.no_feed t.held in
+    let many : (2 ^ 64 - 2) + 1 ≤ length t.taken = omega (arith, t.many) in
+    (refl, IfTold-held feed.text new.text buffer buffer' left left' (λ before after. BeginsLong (2 ^ 64 - 2) before × LosesExcess feed.limit before after) (told_long feed.limit (2 ^ 64 - 2) feed.text t.taken new.text (prepend_known buffer left) (prepend_known buffer' left') t.no_feed text_is many t.consumed))
+
+pub Fetches-failed : (feed new : FeedState) (buffer buffer' : List ℕ) (left left' : Option (List ℕ)) (e : Failed) → Seeks feed.limit feed.text new (prepend_known buffer left) (prepend_known buffer' left') (Err e) → Fetches (state_of Begun feed buffer) (state_of Begun new buffer') left left' (Err e)
+Fetches-failed feed new buffer buffer' left left' e t =
+    let text_is = text-open feed.limit new (feed.text ++ t.taken) t.no_feed t.held in
+    (refl, IfTold-held feed.text new.text buffer buffer' left left' (LosesExcess feed.limit) (told_cut feed.limit feed.text t.taken new.text (prepend_known buffer left) (prepend_known buffer' left') t.no_feed text_is t.consumed))
+
+-- ---- what the feed shows at the end
+
+pub shown_last : (feed : FeedState) (shown : Next) → ShowsLast feed shown → (shown ≡ More → ⊥) → (feed.is_whole ≡ false) × (0 < length feed.text)
+shown_last feed shown shows some = elim (cases_Bool (feed.is_whole || eqb (length feed.text) 0)) [
+  | inl e ↦ absurd (some (MatchBool-at_true (shown ≡ More) (ShowsLine feed.limit feed.text shown) e shows))
+  | inr e ↦ (let p = or_parts feed.is_whole (eqb (length feed.text) 0) e in (p.0, grind (arith, nat_tests, p.1)))
+]
+
+pub shown_none : (feed : FeedState) → ShowsLast feed More → feed.is_whole ≡ false → feed.text ≡ []
+shown_none feed shows more = elim (cases_Bool (feed.is_whole || eqb (length feed.text) 0)) [
+  | inl e ↦ nil_from_length feed.text (eqb-true (length feed.text) 0 (ap (λ t. t || eqb (length feed.text) 0) (sym more) ∙ e))
+  | inr e ↦ absurd (MatchBool-at_false (More ≡ More) (ShowsLine feed.limit feed.text More) e shows)
+]

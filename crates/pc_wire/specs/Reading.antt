@@ -4,7 +4,7 @@ use Rattle.std.specs.Io.KnownBytes.{Consumes, Keeps, IsAtEnd}
 use Rattle.pc_base.specs.declared.failure.Failed.{Failed}
 use Rattle.pc_wire.specs.Lines.{has_feed, lines_of, without_return}
 use Rattle.pc_wire.specs.LineFeed.{FeedState, fed}
-use Rattle.pc_wire.specs.Reader.{Waiting, no_line, waiting, IfTold}
+use Rattle.pc_wire.specs.Reader.{Waiting, ReaderState, no_line, waiting, IfTold}
 use Rattle.pc_wire.specs.declared.fetched.Fetched.{Fetched}
 use Rattle.pc_wire.specs.declared.fetched.Fetched.TheVariants.{Waits, End, Endless}
 use Rattle.pc_wire.specs.declared.fetched.Held.{Held}
@@ -21,6 +21,11 @@ abbrev pub begun_in : Held → FeedState → List ℕ
 begun_in Begun feed = feed.text
 begun_in Whole feed = []
 begun_in Last feed = []
+
+-- what a reader of these parts is
+abbrev pub state_of : Held → FeedState → List ℕ → ReaderState
+state_of held feed buffer =
+    record { limit = feed.limit; ahead = begun_in held feed ++ buffer; waits = waiting_in held feed }
 
 -- the feed holds what is said of it
 abbrev pub IsHeld : Held → FeedState → Type 0

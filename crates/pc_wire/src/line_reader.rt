@@ -6,7 +6,7 @@ ghost use Rattle.pc_base.specs.Stream.{HasCause};
 ghost use Rattle.pc_wire.specs.LineFeed.{Feeds};
 ghost use Rattle.pc_wire.specs.Next.{ShowsLine};
 ghost use Rattle.pc_wire.specs.Reader.{no_line, waiting, Fetches, ShowsWaiting};
-ghost use Rattle.pc_wire.specs.Reading.{IsHeld, Seeks};
+ghost use Rattle.pc_wire.specs.Reading.{state_of, IsHeld, Seeks};
 
 use crate::fetched::{Fetched, Held};
 use crate::line_feed::{LineFeed, Next};
@@ -24,13 +24,12 @@ pub struct LineReader {
 }
 
 impl Model for LineReader {
-    ghost use Rattle.std.specs.Prelude.{◌++◌};
     ghost use Rattle.pc_wire.specs.Reader.{ReaderState};
-    ghost use Rattle.pc_wire.specs.Reading.{waiting_in, begun_in, IsHeld};
+    ghost use Rattle.pc_wire.specs.Reading.{state_of, IsHeld};
 
     ghost Value = { ReaderState };
 
-    ghost view = { λ r. record { limit = r.feed.limit; ahead = begun_in r.held r.feed ++ r.buffer; waits = waiting_in r.held r.feed } };
+    ghost view = { λ r. state_of r.held r.feed r.buffer };
 
     ghost invariant = { λ r. IsHeld r.held r.feed };
 }
@@ -56,17 +55,8 @@ impl LineReader {
         ensures lines { Fetches self.old self.new (S.left source.old) (S.left source.new) result }
         ensures cause { HasCause (S.faults source.old) (S.faults source.new) result }
     {
-        let fetched = seek_feed(&mut self.buffer, &mut self.feed, source);
-        match fetched {
-            Ok(Fetched::Waits) => self.held = Held::Whole,
-            Ok(Fetched::End) => {
-                if !matches!(self.feed.last(), Next::More) {
-                    self.held = Held::Last;
-                    return Ok(Fetched::Waits);
-                }
-            }
-            _ => {}
-        }
+        let (held, fetched) = seek_line(&mut self.buffer, &mut self.feed, source);
+        self.held = held;
         fetched
     }
 
@@ -93,6 +83,28 @@ impl LineReader {
         }
         self.feed.consume();
         self.held = Held::Begun;
+    }
+}
+
+/// Reads up to an LF or the end. Answers what the feed holds now, and what `fetch` answers.
+fn seek_line<S: Source>(buffer: &mut ReadBuffer, feed: &mut LineFeed, source: &mut S) -> (Held, Result<Fetched, Failed>)
+    requires { IsHeld Held.Begun feed.old }
+    ensures held { IsHeld result.0 feed.new }
+    ensures limit { feed.new.limit ≡ feed.old.limit }
+    ensures lines { Fetches (state_of Held.Begun feed.old buffer.old) (state_of result.0 feed.new buffer.new)
+        (S.left source.old) (S.left source.new) result.1 }
+    ensures cause { HasCause (S.faults source.old) (S.faults source.new) result.1 }
+{
+    let Ok(fetched) = seek_feed(buffer, feed, source) else {
+        return (Held::Begun, Err(Failed));
+    };
+    match fetched {
+        Fetched::Waits => (Held::Whole, Ok(Fetched::Waits)),
+        Fetched::End => match feed.last() {
+            Next::More => (Held::Begun, Ok(Fetched::End)),
+            _ => (Held::Last, Ok(Fetched::Waits)),
+        },
+        Fetched::Endless => (Held::Begun, Ok(Fetched::Endless)),
     }
 }
 
