@@ -8,7 +8,8 @@ use Rattle.std.proofs.lemmas.Bool.{false≢true}
 use Rattle.pc_base.specs.declared.failure.Failed.{Failed}
 use Rattle.pc_base.specs.Stream.{AppendsFront, Rose}
 use Rattle.pc_wire.specs.Lines.{lines_of}
-use Rattle.pc_wire.specs.Reader.{IfTold}
+use Rattle.pc_wire.specs.Reader.{ReaderState, IfTold, BeginsLong, LosesExcess, no_line, unread}
+use Rattle.pc_world.proofs.Stopped.{stops_bad, long_none}
 use Rattle.pc_world.specs.Account.{Account}
 use Rattle.pc_world.specs.Runs.{Plays, Chain, Begins, GoesOn, IsRun, IsOfForm, IsRefused, IsFront, lines_in, text_of, ended, most_lines}
 use Rattle.pc_world.specs.Replay.{Stops, Finishes, Sends, Writes, Ends, Completes, IsComplete}
@@ -63,6 +64,20 @@ IsPlayed-none script before = record {
   appended = Appends-nil before;
   text = refl;
 }
+
+-- at the start nothing is read, played or printed
+pub IsPlayed-start : (script before : Option (List ℕ)) (state : ReaderState) (world : List Account) (text : List ℕ)
+    → state ≡ record { limit = 1000; ahead = []; waits = no_line } → world ≡ [] → text ≡ [] → IsPlayed script (unread state script) before before world text 0
+IsPlayed-start script before state world text new empty blank =
+    let P : ReaderState → Type 0 = λ s. IsPlayed script (unread s script) before before world text 0 in
+    let Q : List Account → Type 0 = λ w. IsPlayed script (prepend_known [] script) before before w text 0 in
+    let R : List ℕ → Type 0 = λ t. IsPlayed script (prepend_known [] script) before before [] t 0 in
+    subst P (sym new) (subst Q (sym empty) (subst R (sym blank) (IsPlayed-none script before)))
+
+pub IsPlayed-count : (script unread before after : Option (List ℕ)) (world : List Account) (pending : List ℕ) (count same : ℕ)
+    → count ≡ same → IsPlayed script unread before after world pending count → IsPlayed script unread before after world pending same
+IsPlayed-count script unread before after world pending count same equal played =
+    subst (λ (n : ℕ). IsPlayed script unread before after world pending n) equal played
 
 told_more : (script unread unread' : Option (List ℕ)) (events : List (List (List ℕ))) (line : List ℕ)
     → IfTold script unread (λ bytes rest. lines_of bytes ≡ lines_in events ++ lines_of rest)
@@ -148,6 +163,11 @@ whole_front : (script unread before after after' : Option (List ℕ)) (world : L
     → IsPlayed script unread before after world pending count → Appends after after' pending → Writes script before after' IsFront
 whole_front script unread before after after' world pending count played written =
     front_written script unread before after after' world pending count (length pending) played (subst (λ (text : List ℕ). Appends after after' text) (sym (all_taken pending)) written)
+
+-- the text that was written is the one that was pending
+pub Finishes-text : (before after : Option (List ℕ)) (faults faults' : ℕ) (shown pending : List ℕ) (end result : ReplayEnd) → shown ≡ pending → Finishes before after faults faults' shown end result → Finishes before after faults faults' pending end result
+Finishes-text before after faults faults' shown pending end result same finished =
+    subst (λ (text : List ℕ). Finishes before after faults faults' text end result) same finished
 
 -- however the writing went, what it was to end with holds where it did, and a front was written where it failed
 ends_by : (script left unread before after after' : Option (List ℕ)) (world : List Account) (pending : List ℕ) (count faults faults' : ℕ) (end result : ReplayEnd)
@@ -258,6 +278,14 @@ pub StopsAt-past : (unread unread' : Option (List ℕ)) (world : List Account) (
 StopsAt-past None unread' world line more = tt
 StopsAt-past (Some bytes) None world line more = absurd more
 StopsAt-past (Some bytes) (Some rest) world line more = (line, (lines_of rest, (more, λ within. absurd (omega (arith, within)))))
+
+pub StopsAt-endless : (unread unread' : Option (List ℕ)) (world : List Account) (number : ℕ)
+    → IfTold unread unread' (λ bytes rest. BeginsLong (2 ^ 64 - 2) bytes × LosesExcess 1000 bytes rest) → IfSome unread (StopsAt world number)
+StopsAt-endless None unread' world number long = tt
+StopsAt-endless (Some bytes) None world number long = absurd long
+StopsAt-endless (Some bytes) (Some rest) world number long =
+    let begins = long.0 in
+    (begins.0, (begins.1.0, (begins.1.1.0, λ _. stops_bad world begins.0 (long_none begins.0 (omega (arith, begins.1.1.1))) begins.1.0)))
 
 -- what succeeds follows from how a replay may end, and from the causes of the failures
 not_refused : (bytes text : List ℕ) (number : ℕ) → IsOfForm bytes → IsRefused bytes number text → ⊥

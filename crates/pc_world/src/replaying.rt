@@ -1,7 +1,8 @@
 //! The replay of a script: its lines are read, played and written as a transcript.
 
-ghost use Rattle.std.specs.Prelude.{◌≡◌, ℕ, ◌≤◌, List, ◌++◌, OnOk, OnErr, length, take};
+ghost use Rattle.std.specs.Prelude.{◌≡◌, ℕ, ◌≤◌, List, [], ◌++◌, OnOk, OnErr, length, take};
 ghost use Rattle.pc_base.specs.Stream.{Rose, HasCause};
+ghost use Rattle.pc_wire.specs.Next.{ShowsLine};
 ghost use Rattle.pc_wire.specs.Reader.{no_line, unread};
 ghost use Rattle.pc_world.specs.Replay.{PlaysLine, TakesTurn, Finishes, Sends, Ends, Completes};
 ghost use Rattle.pc_world.specs.Runs.{text_of};
@@ -15,6 +16,11 @@ use std::alloc::Global;
 
 /// The most lines of a script.
 const MOST_LINES: u64 = 1_000_000;
+
+/// The end at a line past them.
+const PAST: ReplayEnd = ReplayEnd::Refused {
+    line: MOST_LINES + 1,
+};
 
 /// How many bytes are printed before they are written.
 const FULL: usize = 32_768;
@@ -59,22 +65,44 @@ fn play_all<S: Source, K: Sink>(alloc: Global, input: &mut S, output: &mut K) ->
     };
     let mut world = World::new();
     let mut text = Vec::new(alloc);
+    play_lines(alloc, input, output, &mut lines, &mut world, &mut text)
+}
+
+/// Plays what the lines say in a new world.
+fn play_lines<S: Source, K: Sink>(
+    alloc: Global,
+    input: &mut S,
+    output: &mut K,
+    lines: &mut LineReader,
+    world: &mut World,
+    text: &mut Vec<u8>,
+) -> ReplayEnd
+    requires lines { lines.old ≡ record { limit = 1000; ahead = []; waits = no_line } }
+    requires world { world.old ≡ [] }
+    requires text { text.old.items ≡ [] }
+    ensures ends { Ends (S.left input.old) (S.left input.new) (K.written output.old) (K.written output.new) result }
+    ensures read { result ≡ ReplayEnd.ReadFault → Rose (S.faults input.old) (S.faults input.new) }
+    ensures write { result ≡ ReplayEnd.WriteFault → Rose (K.faults output.old) (K.faults output.new) }
+    ensures input_count { S.faults input.old ≤ S.faults input.new }
+    ensures output_count { K.faults output.old ≤ K.faults output.new }
+{
     for number in 0..MOST_LINES {
-        match play_next(alloc, input, &mut lines, &mut world, &mut text) {
+        match play_next(alloc, input, lines, world, text) {
             Turn::Played => {}
-            Turn::Ended => return finish(output, &text, ReplayEnd::Done),
-            Turn::Refused => return finish(output, &text, ReplayEnd::Refused { line: number + 1 }),
-            Turn::ReadFault => return finish(output, &text, ReplayEnd::ReadFault),
-            Turn::Memory => return finish(output, &text, ReplayEnd::Memory),
+            Turn::Ended => return finish(output, text, ReplayEnd::Done),
+            Turn::Refused => return finish(output, text, ReplayEnd::Refused { line: number + 1 }),
+            Turn::ReadFault => return finish(output, text, ReplayEnd::ReadFault),
+            Turn::Memory => return finish(output, text, ReplayEnd::Memory),
         }
-        if send_full(output, &mut text).is_err() {
+        let Ok(()) = send_full(output, text) else {
             return ReplayEnd::WriteFault;
-        }
+        };
     }
     match lines.fetch(input) {
-        Ok(Fetched::End) => finish(output, &text, ReplayEnd::Done),
-        Ok(_) => finish(output, &text, ReplayEnd::Refused { line: MOST_LINES + 1 }),
-        Err(_) => finish(output, &text, ReplayEnd::ReadFault),
+        Ok(Fetched::End) => finish(output, text, ReplayEnd::Done),
+        Ok(Fetched::Waits) => finish(output, text, PAST),
+        Ok(Fetched::Endless) => finish(output, text, PAST),
+        Err(_) => finish(output, text, ReplayEnd::ReadFault),
     }
 }
 
