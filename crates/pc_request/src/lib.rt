@@ -1,8 +1,12 @@
-//! Stub.
+//! The grammar of request lines: every operation is read and written.
 #![tactic(auto)]
 
+mod arguments;
 mod operation;
+mod reading;
 mod request;
+mod text;
+mod writing;
 
 pub use operation::Operation;
 pub use request::{Request, RequestFault};

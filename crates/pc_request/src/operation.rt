@@ -1,5 +1,10 @@
-//! Operations.
+//! The operations that a request can name.
 
+ghost use Rattle.std.specs.Prelude.{◌≡◌, ◌≤◌, length, IfSome, IfNone};
+ghost use Rattle.pc_request.specs.Operation.{word_of, operations, operation_named, IsNamed};
+ghost use Rattle.pc_request.specs.declared.operation.Operation.{Operation};
+
+/// What a request asks for.
 #[derive(Clone, Copy, Debug, PartialEq, Eq)]
 pub enum Operation {
     SendVersion,
@@ -33,4 +38,103 @@ pub enum Operation {
     CopyMessage,
     SetMessageFlag,
     SendMessage,
+}
+
+static ALL: [Operation; 31] = [
+    Operation::SendVersion,
+    Operation::Help,
+    Operation::Login,
+    Operation::Logout,
+    Operation::SetPassword,
+    Operation::ListClients,
+    Operation::CreateClient,
+    Operation::DeleteClient,
+    Operation::ResetClient,
+    Operation::ListMailboxes,
+    Operation::CreateMailbox,
+    Operation::DeleteMailbox,
+    Operation::ResetMailbox,
+    Operation::SelectMailbox,
+    Operation::ExpungeMailbox,
+    Operation::ListAddresses,
+    Operation::CreateAddress,
+    Operation::DeleteAddress,
+    Operation::ListSubscriptions,
+    Operation::ListAvailableSubscriptions,
+    Operation::CreateSubscription,
+    Operation::DeleteSubscription,
+    Operation::ResetSubscription,
+    Operation::FetchDescriptors,
+    Operation::FetchChangedDescriptors,
+    Operation::ResetDescriptors,
+    Operation::FetchHeaders,
+    Operation::FetchMessage,
+    Operation::CopyMessage,
+    Operation::SetMessageFlag,
+    Operation::SendMessage,
+];
+
+impl Operation {
+    /// All operations, in the order in which HELP lists them.
+    #[tactic(auto, unfolding(crate::specs::Operation::operations))]
+    pub fn all() -> &'static [Operation]
+        ensures { result.now ≡ operations }
+    {
+        &ALL
+    }
+
+    /// The operation that the word names, in capitals or small letters.
+    pub fn named(word: &[u8]) -> Option<Operation>
+        ensures value { result ≡ operation_named word.now }
+        ensures named { IfSome result (λ operation. IsNamed operation word.now) }
+        ensures unknown { IfNone result ((operation : Operation) → ¬ IsNamed operation word.now) }
+    {
+        for operation in Operation::all() {
+            if word.eq_ignore_ascii_case(operation.word()) {
+                return Some(*operation);
+            }
+        }
+        None
+    }
+
+    /// The word that names it, in capitals.
+    #[tactic(auto, unfolding(crate::specs::Operation::word_of))]
+    pub fn word(&self) -> &'static [u8]
+        ensures value { result.now ≡ word_of self.now }
+        ensures short { length result.now ≤ 28 }
+    {
+        match self {
+            Operation::SendVersion => b"SEND-VERSION",
+            Operation::Help => b"HELP",
+            Operation::Login => b"LOGIN",
+            Operation::Logout => b"LOGOUT",
+            Operation::SetPassword => b"SET-PASSWORD",
+            Operation::ListClients => b"LIST-CLIENTS",
+            Operation::CreateClient => b"CREATE-CLIENT",
+            Operation::DeleteClient => b"DELETE-CLIENT",
+            Operation::ResetClient => b"RESET-CLIENT",
+            Operation::ListMailboxes => b"LIST-MAILBOXES",
+            Operation::CreateMailbox => b"CREATE-MAILBOX",
+            Operation::DeleteMailbox => b"DELETE-MAILBOX",
+            Operation::ResetMailbox => b"RESET-MAILBOX",
+            Operation::SelectMailbox => b"SELECT-MAILBOX",
+            Operation::ExpungeMailbox => b"EXPUNGE-MAILBOX",
+            Operation::ListAddresses => b"LIST-ADDRESSES",
+            Operation::CreateAddress => b"CREATE-ADDRESS",
+            Operation::DeleteAddress => b"DELETE-ADDRESS",
+            Operation::ListSubscriptions => b"LIST-SUBSCRIPTIONS",
+            Operation::ListAvailableSubscriptions => b"LIST-AVAILABLE-SUBSCRIPTIONS",
+            Operation::CreateSubscription => b"CREATE-SUBSCRIPTION",
+            Operation::DeleteSubscription => b"DELETE-SUBSCRIPTION",
+            Operation::ResetSubscription => b"RESET-SUBSCRIPTION",
+            Operation::FetchDescriptors => b"FETCH-DESCRIPTORS",
+            Operation::FetchChangedDescriptors => b"FETCH-CHANGED-DESCRIPTORS",
+            Operation::ResetDescriptors => b"RESET-DESCRIPTORS",
+            Operation::FetchHeaders => b"FETCH-HEADERS",
+            Operation::FetchMessage => b"FETCH-MESSAGE",
+            Operation::CopyMessage => b"COPY-MESSAGE",
+            Operation::SetMessageFlag => b"SET-MESSAGE-FLAG",
+            Operation::SendMessage => b"SEND-MESSAGE",
+        }
+    }
 }

@@ -1,0 +1,5 @@
+pub mod OperationLemmas
+pub mod ArgumentLemmas
+pub mod Grammar
+pub mod DecimalLemmas
+pub mod Written
