@@ -169,6 +169,10 @@ pub Finishes-text : (before after : Option (List ℕ)) (faults faults' : ℕ) (s
 Finishes-text before after faults faults' shown pending end result same finished =
     subst (λ (text : List ℕ). Finishes before after faults faults' text end result) same finished
 
+-- nothing was read, played or written
+pub Ends-none : (script left before : Option (List ℕ)) → Ends script left before before Memory
+Ends-none script left before = whole_front script (prepend_known [] script) before before before [] [] 0 (IsPlayed-none script before) (Appends-nil before)
+
 -- however the writing went, what it was to end with holds where it did, and a front was written where it failed
 ends_by : (script left unread before after after' : Option (List ℕ)) (world : List Account) (pending : List ℕ) (count faults faults' : ℕ) (end result : ReplayEnd)
     → IsPlayed script unread before after world pending count

@@ -12,7 +12,7 @@ ghost use Rattle.pc_world.specs.declared.event.Event.{Event as EventValue};
 
 use crate::event::{Asked, Event, EventFault};
 use pc_base::{Name, Password};
-use pc_request::{Request, RequestFault};
+use pc_request::Request;
 use pc_wire::{next_word, without_spaces};
 
 /// The most bytes of a line, and of a request in it.
@@ -107,17 +107,8 @@ fn asked(text: &[u8]) -> Asked
     if text.len() > MOST_REQUEST {
         return Asked::TooLong;
     }
-    match read_request(text) {
+    match Request::read(text) {
         Ok(request) => Asked::Read(request),
         Err(fault) => Asked::Faulty(fault),
     }
-}
-
-fn read_request(line: &[u8]) -> Result<Request, RequestFault>
-    ensures ok { IfOk result (λ request. IsRequest request line.now) }
-    ensures fault { IfErr result (λ fault. fault_of line.now ≡ Some fault) }
-    ensures only { (request : RequestValue) → IsRequest request line.now → result ≡ Ok request }
-    ensures only_fault { (fault : FaultValue) → fault_of line.now ≡ Some fault → result ≡ Err fault }
-{
-    Err(RequestFault::Unknown)
 }
