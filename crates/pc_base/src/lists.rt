@@ -32,6 +32,15 @@ impl Bytes {
         }
     }
 
+    /// No bytes, with room for so many.
+    pub fn with_capacity(alloc: Global, capacity: usize) -> Result<Bytes, Memory>
+        ensures { IfOk result (λ bytes. bytes ≡ []) }
+    {
+        Ok(Bytes {
+            bytes: Vec::with_capacity(alloc, capacity)?,
+        })
+    }
+
     /// A copy of these bytes.
     pub fn copy_of(alloc: Global, bytes: &[u8]) -> Result<Bytes, Memory>
         ensures { IfOk result (λ copy. copy ≡ bytes.now) }

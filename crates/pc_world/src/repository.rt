@@ -13,6 +13,9 @@ use pc_base::{Bytes, Memory, Printed, Refusal, ShortText};
 use pc_request::{Request, RequestFault};
 use std::alloc::Global;
 
+/// Room for a line of a list of mailboxes: a name and two numbers.
+const ROW_ROOM: usize = 54;
+
 /// A reply, and what is kept with it.
 #[derive(Drop)]
 pub struct Reply {
@@ -113,7 +116,8 @@ fn mailbox_line(alloc: Global, row: &MailboxRow) -> Result<Bytes, Memory>
     ensures { IfOk result (λ line. line ≡ line_of_mailbox row.now) }
 {
     let mut digits = Buffer::new();
-    let mut line = Bytes::copy_of(alloc, row.name.bytes())?;
+    let mut line = Bytes::with_capacity(alloc, ROW_ROOM)?;
+    line.append(row.name.bytes())?;
     line.append(b" ")?;
     line.append(digits.format(row.live).as_bytes())?;
     line.append(b" ")?;

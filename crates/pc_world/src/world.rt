@@ -13,6 +13,9 @@ use pc_base::{Bytes, Memory, Name, Password, Printed};
 use std::alloc::Global;
 use std::marker::Model;
 
+/// Room for the first line that an event prints: its word, a name and a reply's head.
+const LINE_ROOM: usize = 136;
+
 /// A user and the account.
 #[derive(Drop)]
 pub(crate) struct User {
@@ -140,14 +143,16 @@ fn printed_user(alloc: Global, name: &Name) -> Result<Printed, Memory>
 fn printed_reply(alloc: Global, user: &Name, reply: &Reply) -> Result<Printed, Memory>
     ensures { IfOk result (λ printed. printed ≡ shown_reply user.now reply.now) }
 {
-    let mut first = Bytes::copy_of(alloc, b"ask ")?;
+    let mut first = Bytes::with_capacity(alloc, LINE_ROOM)?;
+    first.append(b"ask ")?;
     first.append(user.bytes())?;
     first.append(b": ")?;
     first.append(reply.head.bytes())?;
     let mut printed = Printed::new(alloc);
     printed.push(first)?;
     for line in reply.lines.as_slice() {
-        let mut shown = Bytes::copy_of(alloc, b"  ")?;
+        let mut shown = Bytes::with_capacity(alloc, line.as_slice().len() + 2)?;
+        shown.append(b"  ")?;
         shown.append(line.as_slice())?;
         printed.push(shown)?;
     }

@@ -1,6 +1,5 @@
 -- How a run ends, by its words, what it read and what it wrote.
-use Rattle.std.specs.Prelude.{◌≡◌, ℕ, List, [], ◌∷◌, map, codes, Option, Some, IfSome}
-use Rattle.std.specs.String.{String, string_bytes}
+use Rattle.std.specs.Prelude.{◌≡◌, ℕ, List, [], ◌∷◌, codes, Option, Some, IfSome}
 use Rattle.pc_world.specs.Replay.{Writes}
 use Rattle.pc_world.specs.Runs.{IsRun, IsOfForm, IsRefused, IsFront}
 use Rattle.pc_world.specs.declared.replaying.ReplayEnd.{ReplayEnd}
@@ -9,8 +8,8 @@ use Rattle.pcmail.specs.declared.status.Status.{Status}
 use Rattle.pcmail.specs.declared.status.Status.TheVariants.{Ok, Usage, InputRefused, ReadFault, WriteFault, Memory}
 
 -- the one word is `replay`
-abbrev pub IsReplay : List String → Type 0
-IsReplay words = map string_bytes words ≡ codes "replay" ∷ []
+abbrev pub IsReplay : List (List ℕ) → Type 0
+IsReplay words = words ≡ codes "replay" ∷ []
 
 -- the status that tells how a replay ended
 abbrev pub status_after : ReplayEnd → Status

@@ -1,6 +1,6 @@
 //! The commands of the program.
 
-ghost use Rattle.std.specs.Prelude.{◌≡◌, ◌≤◌, ◌↔◌, IsTrue};
+ghost use Rattle.std.specs.Prelude.{◌≡◌, ◌≤◌, ◌↔◌, map, codes, IsTrue, string_bytes};
 ghost use Rattle.pc_base.specs.Stream.{Rose};
 ghost use Rattle.pcmail.specs.Run.{IsReplay, RunEnds, RunCompletes, status_after};
 
@@ -13,7 +13,7 @@ use std::alloc::Global;
 /// its transcript. Other words are no command yet.
 pub fn run<S: Source, K: Sink>(alloc: Global, words: &[String], input: &mut S, output: &mut K) -> Status
     // Usage comes exactly where the words aren't the one word `replay`.
-    ensures usage { (result ≡ Status.Usage) ↔ (IsReplay words.now → ⊥) }
+    ensures usage { (result ≡ Status.Usage) ↔ (IsReplay (map string_bytes words.now) → ⊥) }
 
     // What was read and written, by the status.
     ensures ends { RunEnds (S.left input.old) (S.left input.new) (K.written output.old) (K.written output.new) result }
@@ -24,7 +24,7 @@ pub fn run<S: Source, K: Sink>(alloc: Global, words: &[String], input: &mut S, o
     ensures write { result ≡ Status.WriteFault → Rose (K.faults output.old) (K.faults output.new) }
 
     // What succeeds.
-    ensures complete { IsReplay words.now → RunCompletes (S.left input.old) (Rose (S.faults input.old) (S.faults input.new)) (Rose (K.faults output.old) (K.faults output.new)) result }
+    ensures complete { IsReplay (map string_bytes words.now) → RunCompletes (S.left input.old) (Rose (S.faults input.old) (S.faults input.new)) (Rose (K.faults output.old) (K.faults output.new)) result }
 
     ensures input_count { S.faults input.old ≤ S.faults input.new }
     ensures output_count { K.faults output.old ≤ K.faults output.new }
@@ -36,12 +36,18 @@ pub fn run<S: Source, K: Sink>(alloc: Global, words: &[String], input: &mut S, o
 }
 
 fn is_replay(words: &[String]) -> bool
-    ensures { IsTrue result ↔ IsReplay words.now }
+    ensures { IsTrue result ↔ IsReplay (map string_bytes words.now) }
 {
     match words {
-        [word] => word.as_str() == "replay",
+        [word] => is_replay_word(word),
         _ => false,
     }
+}
+
+fn is_replay_word(word: &String) -> bool
+    ensures { IsTrue result ↔ (string_bytes word.now ≡ codes "replay") }
+{
+    word.as_str() == "replay"
 }
 
 fn status_of(end: ReplayEnd) -> Status

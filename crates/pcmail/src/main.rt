@@ -36,5 +36,5 @@ fn run_here(rt: &HostRuntime) -> Status {
 
 /// The words behind the program's name.
 fn words(rt: &HostRuntime) -> io::Result<Vec<String>> {
-    env::args(rt)?.skip(1).collect(rt.alloc())
+    Ok(env::args(rt)?.skip(1).collect(rt.alloc())?)
 }
