@@ -87,7 +87,11 @@ impl LineReader {
 }
 
 /// Reads up to an LF or the end. Answers what the feed holds now, and what `fetch` answers.
-fn seek_line<S: Source>(buffer: &mut ReadBuffer, feed: &mut LineFeed, source: &mut S) -> (Held, Result<Fetched, Failed>)
+fn seek_line<S: Source>(
+    buffer: &mut ReadBuffer,
+    feed: &mut LineFeed,
+    source: &mut S,
+) -> (Held, Result<Fetched, Failed>)
     requires { IsHeld Held.Begun feed.old }
     ensures held { IsHeld result.0 feed.new }
     ensures limit { feed.new.limit ≡ feed.old.limit }
@@ -109,7 +113,11 @@ fn seek_line<S: Source>(buffer: &mut ReadBuffer, feed: &mut LineFeed, source: &m
 }
 
 /// Feeds what is ahead and what the source gives, up to an LF or the end.
-fn seek_feed<S: Source>(buffer: &mut ReadBuffer, feed: &mut LineFeed, source: &mut S) -> Result<Fetched, Failed>
+fn seek_feed<S: Source>(
+    buffer: &mut ReadBuffer,
+    feed: &mut LineFeed,
+    source: &mut S,
+) -> Result<Fetched, Failed>
     requires { IsHeld Held.Begun feed.old }
     ensures bytes { Seeks feed.old.limit feed.old.text feed.new
         (prepend_known buffer.old (S.left source.old)) (prepend_known buffer.new (S.left source.new)) result }
