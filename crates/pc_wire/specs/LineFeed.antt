@@ -16,10 +16,18 @@ abbrev pub fed : ℕ → List ℕ → FeedState
 fed limit bytes =
     record { limit = limit; text = take (limit + 2) (before_feed bytes); is_whole = has_feed bytes }
 
+-- what a feed holds after a piece, where no whole line waits
+abbrev pub with_piece : FeedState → List ℕ → FeedState
+with_piece old piece = record {
+  limit = old.limit;
+  text = take (old.limit + 2) (old.text ++ before_feed piece);
+  is_whole = has_feed piece;
+}
+
 -- a call of `feed` takes so many bytes of the piece: none where a whole line waits, else those up to and with the first LF
 pub record Feeds (old new : FeedState) (piece : List ℕ) (count : ℕ) : Type 0 where
   pub waits : old.is_whole ≡ true → (count ≡ 0) × (new ≡ old)
-  pub takes : old.is_whole ≡ false → (count ≡ length (take_through 10 piece)) × (new ≡ record { limit = old.limit; text = take (old.limit + 2) (old.text ++ before_feed piece); is_whole = has_feed piece })
+  pub takes : old.is_whole ≡ false → (count ≡ length (take_through 10 piece)) × (new ≡ with_piece old piece)
 
 -- calls of `feed` with these pieces, one after another
 abbrev pub FeedsAll : FeedState → FeedState → List (List ℕ) → Type 0

@@ -98,7 +98,7 @@ impl LineFeed {
         !self.is_whole && without_return(self.text.as_slice()).len() > self.limit as usize
     }
 
-    /// At the end of an input: the line that hasn't ended, as it came, with a CR at its end. `More`
+    /// At the end of an input: the line that hasn't ended, as it came; a CR at its end stays. `More`
     /// comes exactly where nothing came of it or a whole line waits, and `TooLong` exactly where it has
     /// more than the limit's bytes.
     pub fn last(&self) -> Next<'_>
