@@ -8,7 +8,7 @@ use Rattle.std.proofs.lemmas.List.{nil_from_length, take_all, take-take, take-ap
 use Rattle.std.proofs.lemmas.Bool.{or_parts, cases_Bool, cases_lt, false≢true, lt-ltb, ltb-true, ltb-false, eqb-true, MatchBool-at_true, MatchBool-at_false}
 use Rattle.pc_base.specs.declared.failure.Failed.{Failed}
 use Rattle.pc_wire.specs.Lines.{is_feed, has_feed, lines_of, before_feed, without_return}
-use Rattle.pc_wire.specs.LineFeed.{FeedState, fed, Feeds}
+use Rattle.pc_wire.specs.LineFeed.{FeedState, fed, with_piece, Feeds}
 use Rattle.pc_wire.specs.Next.{ShowsLine, ShowsLast}
 use Rattle.pc_wire.specs.declared.line_feed.Next.{Next}
 use Rattle.pc_wire.specs.declared.line_feed.Next.TheVariants.{More}
@@ -18,7 +18,7 @@ use Rattle.pc_wire.specs.declared.fetched.Fetched.{Fetched}
 use Rattle.pc_wire.specs.declared.fetched.Fetched.TheVariants.{Waits, End, Endless}
 use Rattle.pc_wire.specs.declared.fetched.Held.TheVariants.{Begun, Last}
 use Rattle.pc_wire.proofs.LineLemmas.{lines_of-feed, lines_of-last, open-append}
-use Rattle.pc_wire.proofs.FeedLemmas.{before_feed-append, before_feed-open, open-before_feed, piece_parts, fed-more, fed-goes_on, lines_of-fed, length-without_return, take_take-append}
+use Rattle.pc_wire.proofs.FeedLemmas.{before_feed-append, before_feed-open, open-before_feed, piece_parts, fed-more, fed-goes_on, lines_of-fed, length-without_return}
 
 -- ---- the buffer
 
@@ -313,6 +313,20 @@ waiting-same_whole : (limit : ℕ) (line other : List ℕ) → take (limit + 2) 
 waiting-same_whole limit line other e =
     sym (waiting-cut_whole limit line) ∙ ap (waiting limit) e ∙ waiting-cut_whole limit other
 
+-- what a feed keeps of a line goes on as the line does
+kept-more : (limit : ℕ) (line after : List ℕ) → has_feed line ≡ false → fed limit (line ++ after) ≡ fed limit (take (limit + 2) line ++ after)
+kept-more limit line after h =
+    let new = with_piece (fed limit line) after in
+    let count = length (take_through 10 after) in
+    let F : FeedState → Type 0 = λ state. Feeds state new after count in
+    let feeds : Feeds (fed limit line) new after count = record { waits = λ whole. absurd (false≢true (sym h ∙ whole)); takes = λ _. (refl, refl) } in
+    sym (fed-more limit line new after count feeds) ∙ fed-more limit (take (limit + 2) line) new after count (subst F (fed-kept limit line h) feeds)
+
+kept-same : (limit : ℕ) (line after : List ℕ) → has_feed line ≡ false → has_feed after ≡ false → take (limit + 2) (line ++ after) ≡ take (limit + 2) (take (limit + 2) line ++ after)
+kept-same limit line after h k =
+    let kept = take (limit + 2) line in
+    sym (text-open limit (fed limit (line ++ after)) (line ++ after) (open-append line after h k) refl) ∙ ap (λ (state : FeedState). state.text) (kept-more limit line after h) ∙ text-open limit (fed limit (kept ++ after)) (kept ++ after) (open-append kept after (open-take (limit + 2) line h) k) refl
+
 -- a text with a front without LF, and the same with that front cut
 KeepsLines-cut : (limit : ℕ) (line rest : List ℕ) → has_feed line ≡ false → KeepsLines limit (line ++ rest) (take (limit + 2) line ++ rest)
 KeepsLines-cut limit line rest h = elim (cases_Bool (has_feed rest)) [
@@ -323,18 +337,15 @@ KeepsLines-cut limit line rest h = elim (cases_Bool (has_feed rest)) [
     shut : has_feed (take (limit + 2) line) ≡ false
     shut = open-take (limit + 2) line h
 
-    same : (after : List ℕ) → take (limit + 2) (line ++ after) ≡ take (limit + 2) (take (limit + 2) line ++ after)
-    same after = sym (take_take-append (limit + 2) line after)
-
     with_feed : has_feed rest ≡ true → KeepsLines limit (line ++ rest) (take (limit + 2) line ++ rest)
     with_feed e =
         let after = before_feed rest in
-        inr (without_return (line ++ after), (without_return (take (limit + 2) line ++ after), (lines_of (drop (length (take_through 10 rest)) rest), (lines_of-front line rest h e, lines_of-front (take (limit + 2) line) rest shut e, waiting-same limit (line ++ after) (take (limit + 2) line ++ after) (same after)))))
+        inr (without_return (line ++ after), (without_return (take (limit + 2) line ++ after), (lines_of (drop (length (take_through 10 rest)) rest), (lines_of-front line rest h e, lines_of-front (take (limit + 2) line) rest shut e, waiting-same limit (line ++ after) (take (limit + 2) line ++ after) (kept-same limit line after h (open-before_feed rest))))))
 
     with_last : has_feed rest ≡ false → 0 < length (line ++ rest) → KeepsLines limit (line ++ rest) (take (limit + 2) line ++ rest)
     with_last e some =
         let more : 0 < length (take (limit + 2) line ++ rest) = omega (arith, length-append line rest, length-append (take (limit + 2) line) rest, length-take (limit + 2) line) in
-        inr (line ++ rest, (take (limit + 2) line ++ rest, ([], (lines_of-last (line ++ rest) (open-append line rest h e) some, lines_of-last (take (limit + 2) line ++ rest) (open-append (take (limit + 2) line) rest shut e) more, waiting-same_whole limit (line ++ rest) (take (limit + 2) line ++ rest) (same rest)))))
+        inr (line ++ rest, (take (limit + 2) line ++ rest, ([], (lines_of-last (line ++ rest) (open-append line rest h e) some, lines_of-last (take (limit + 2) line ++ rest) (open-append (take (limit + 2) line) rest shut e) more, waiting-same_whole limit (line ++ rest) (take (limit + 2) line ++ rest) (kept-same limit line rest h e)))))
 
     with_none : length (line ++ rest) ≤ 0 → lines_of (line ++ rest) ≡ lines_of (take (limit + 2) line ++ rest)
     with_none none =

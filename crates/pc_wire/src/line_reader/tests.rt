@@ -28,10 +28,11 @@ fn failures_before_line<S: Source>(rt: &impl Abort, reader: &mut LineReader, sou
 /// Reads all lines of the text, and answers how many reads failed.
 fn failures_in_lines(rt: &impl Abort, reader: &mut LineReader, source: &mut MemorySource) -> u32
     requires { reader.old.waits ≡ no_line }
+    ensures { reader.new.waits ≡ no_line }
 {
     let mut failures = 0;
     for line in LINES {
-        failures += failures_before_line(rt, reader, source);
+        failures = failures_before_line(rt, reader, source).saturating_add(failures);
         assert_eq!(rt; reader.line(), Next::Line(line));
         reader.consume();
     }
