@@ -1,5 +1,5 @@
 -- A line reader: what is read ahead, and what a line that goes on leaves in its feed.
-use Rattle.std.proofs.Common.{◌≡◌, ℕ, zero, suc, ◌+◌, ◌-◌, ◌*◌, ◌^◌, ◌<◌, ◌≤◌, Bool, true, false, cond, eqb, ltb, ◌||◌, ◌⊎◌, List, [], ◌∷◌, ◌++◌, length, take, drop, slice_range, Option, Some, None, Result, Ok, Err, sym, refl, ap, subst, ◌∙◌, inl, inr, arith, append_assoc, append-nil, length-append, length-take, length-drop}
+use Rattle.std.proofs.Common.{◌≡◌, ℕ, zero, suc, ◌+◌, ◌-◌, ◌^◌, ◌<◌, ◌≤◌, Bool, true, false, eqb, ltb, ◌||◌, List, [], ◌∷◌, ◌++◌, length, take, drop, slice_range, Option, Some, None, Ok, Err, sym, refl, ap, subst, ◌∙◌, inl, inr, arith, append_assoc, append-nil, length-append, length-take, length-drop}
 use Rattle.std.specs.Io.KnownBytes.{prepend_known, Keeps, Consumes, IsAtEnd}
 use Rattle.std.proofs.KnownBytes.{Consumes-nil, Consumes-trans, Consumes-kept, Keeps-refl, prepend_known-end}
 use Rattle.std.specs.Io.BufRead.{take_through}
@@ -12,9 +12,8 @@ use Rattle.pc_wire.specs.LineFeed.{FeedState, fed, with_piece, Feeds}
 use Rattle.pc_wire.specs.Next.{ShowsLine, ShowsLast}
 use Rattle.pc_wire.specs.declared.line_feed.Next.{Next}
 use Rattle.pc_wire.specs.declared.line_feed.Next.TheVariants.{More}
-use Rattle.pc_wire.specs.Reader.{Waiting, no_line, long_line, this_line, waiting, IfTold, LosesExcess, KeepsLines, BeginsLong, Fetches}
+use Rattle.pc_wire.specs.Reader.{waiting, IfTold, LosesExcess, KeepsLines, BeginsLong, Fetches}
 use Rattle.pc_wire.specs.Reading.{state_of, Fills, TakesOpen, Seeks, IsHeld}
-use Rattle.pc_wire.specs.declared.fetched.Fetched.{Fetched}
 use Rattle.pc_wire.specs.declared.fetched.Fetched.TheVariants.{Waits, End, Endless}
 use Rattle.pc_wire.specs.declared.fetched.Held.TheVariants.{Begun, Last}
 use Rattle.pc_wire.proofs.LineLemmas.{lines_of-feed, lines_of-last, open-append}
@@ -129,15 +128,6 @@ TakesOpen-kept limit begun feed before middle after count t k = record {
   no_feed = t.no_feed;
   many = t.many;
   consumed = Consumes-kept before middle after t.taken t.consumed k;
-  held = t.held;
-}
-
-pub TakesOpen-fewer : (limit : ℕ) (begun : List ℕ) (feed : FeedState) (before after : Option (List ℕ)) (count few : ℕ) → few ≤ count → TakesOpen limit begun feed before after count → TakesOpen limit begun feed before after few
-TakesOpen-fewer limit begun feed before after count few le t = record {
-  taken = t.taken;
-  no_feed = t.no_feed;
-  many = omega (arith, t.many);
-  consumed = t.consumed;
   held = t.held;
 }
 

@@ -95,7 +95,8 @@ fn seek_line<S: Source>(
     requires { IsHeld Held.Begun feed.old }
     ensures held { IsHeld result.0 feed.new }
     ensures limit { feed.new.limit ≡ feed.old.limit }
-    ensures lines { Fetches (state_of Held.Begun feed.old buffer.old) (state_of result.0 feed.new buffer.new)
+    ensures lines { Fetches
+        (state_of Held.Begun feed.old buffer.old) (state_of result.0 feed.new buffer.new)
         (S.left source.old) (S.left source.new) result.1 }
     ensures cause { HasCause (S.faults source.old) (S.faults source.new) result.1 }
 {
@@ -120,7 +121,8 @@ fn seek_feed<S: Source>(
 ) -> Result<Fetched, Failed>
     requires { IsHeld Held.Begun feed.old }
     ensures bytes { Seeks feed.old.limit feed.old.text feed.new
-        (prepend_known buffer.old (S.left source.old)) (prepend_known buffer.new (S.left source.new)) result }
+        (prepend_known buffer.old (S.left source.old))
+        (prepend_known buffer.new (S.left source.new)) result }
     ensures drained { result ≡ Ok Fetched.End → buffer.new ≡ [] }
     ensures cause { HasCause (S.faults source.old) (S.faults source.new) result }
 {
@@ -141,7 +143,8 @@ fn seek_feed<S: Source>(
 /// Feeds what is ahead, up to an LF, and answers whether one came.
 fn feed_ahead(buffer: &mut ReadBuffer, feed: &mut LineFeed) -> bool
     ensures whole { result ≡ feed.new.is_whole }
-    ensures bytes { (count : ℕ) × (Feeds feed.old feed.new buffer.old count × (buffer.new ≡ drop count buffer.old)) }
+    ensures bytes { (count : ℕ)
+        × (Feeds feed.old feed.new buffer.old count × (buffer.new ≡ drop count buffer.old)) }
 {
     let count = feed.feed(buffer.bytes());
     buffer.skip(count);
