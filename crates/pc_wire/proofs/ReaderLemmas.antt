@@ -1,5 +1,5 @@
 -- A line reader: what is read ahead, and what a line that goes on leaves in its feed.
-use Rattle.std.proofs.Common.{◌≡◌, ℕ, zero, suc, ◌+◌, ◌-◌, ◌*◌, ◌^◌, ◌<◌, ◌≤◌, Bool, true, false, cond, eqb, ltb, ◌||◌, List, [], ◌∷◌, ◌++◌, length, take, drop, slice_range, Option, Some, None, Result, Ok, Err, sym, refl, ap, subst, ◌∙◌, inl, inr, arith, append_assoc, append-nil, length-append, length-take, length-drop}
+use Rattle.std.proofs.Common.{◌≡◌, ℕ, zero, suc, ◌+◌, ◌-◌, ◌^◌, ◌<◌, ◌≤◌, Bool, true, false, eqb, ltb, ◌||◌, List, [], ◌∷◌, ◌++◌, length, take, drop, slice_range, Option, Some, None, Ok, Err, sym, refl, ap, subst, ◌∙◌, inl, inr, arith, append_assoc, append-nil, length-append, length-take, length-drop}
 use Rattle.std.specs.Io.KnownBytes.{prepend_known, Keeps, Consumes, IsAtEnd}
 use Rattle.std.proofs.KnownBytes.{Consumes-nil, Consumes-trans, Consumes-kept, Keeps-refl, prepend_known-end}
 use Rattle.std.specs.Io.BufRead.{take_through}
@@ -8,13 +8,12 @@ use Rattle.std.proofs.lemmas.List.{nil_from_length, take_all, take-take, take-ap
 use Rattle.std.proofs.lemmas.Bool.{or_parts, cases_Bool, cases_lt, false≢true, lt-ltb, ltb-true, ltb-false, eqb-true, MatchBool-at_true, MatchBool-at_false}
 use Rattle.pc_base.specs.declared.failure.Failed.{Failed}
 use Rattle.pc_wire.specs.Lines.{is_feed, has_feed, lines_of, before_feed, without_return}
-use Rattle.pc_wire.specs.LineFeed.{FeedState, fed, Feeds}
+use Rattle.pc_wire.specs.LineFeed.{FeedState, fed, with_piece, Feeds}
 use Rattle.pc_wire.specs.Next.{ShowsLine, ShowsLast}
 use Rattle.pc_wire.specs.declared.line_feed.Next.{Next}
 use Rattle.pc_wire.specs.declared.line_feed.Next.TheVariants.{More}
-use Rattle.pc_wire.specs.Reader.{Waiting, no_line, long_line, this_line, waiting, IfTold, LosesExcess, BeginsLong, Fetches}
+use Rattle.pc_wire.specs.Reader.{waiting, IfTold, LosesExcess, KeepsLines, BeginsLong, Fetches}
 use Rattle.pc_wire.specs.Reading.{state_of, Fills, TakesOpen, Seeks, IsHeld}
-use Rattle.pc_wire.specs.declared.fetched.Fetched.{Fetched}
 use Rattle.pc_wire.specs.declared.fetched.Fetched.TheVariants.{Waits, End, Endless}
 use Rattle.pc_wire.specs.declared.fetched.Held.TheVariants.{Begun, Last}
 use Rattle.pc_wire.proofs.LineLemmas.{lines_of-feed, lines_of-last, open-append}
@@ -132,15 +131,6 @@ TakesOpen-kept limit begun feed before middle after count t k = record {
   held = t.held;
 }
 
-pub TakesOpen-fewer : (limit : ℕ) (begun : List ℕ) (feed : FeedState) (before after : Option (List ℕ)) (count few : ℕ) → few ≤ count → TakesOpen limit begun feed before after count → TakesOpen limit begun feed before after few
-TakesOpen-fewer limit begun feed before after count few le t = record {
-  taken = t.taken;
-  no_feed = t.no_feed;
-  many = omega (arith, t.many);
-  consumed = t.consumed;
-  held = t.held;
-}
-
 -- the feed took a piece without LF
 pub TakesOpen-more : (limit : ℕ) (begun : List ℕ) (feed new : FeedState) (before left : Option (List ℕ)) (ahead : List ℕ) (taken count : ℕ) → TakesOpen limit begun feed before (prepend_known ahead left) taken → 0 < length ahead → Feeds feed new ahead count → new.is_whole ≡ false → TakesOpen limit begun new before (prepend_known (drop count ahead) left) (taken + 1)
 TakesOpen-more limit begun feed new before left ahead taken count t some f more =
@@ -174,11 +164,17 @@ Seeks-line limit begun feed new before left ahead taken count t f whole =
     let g = subst F t.held f in
     let is : new ≡ fed limit (since ++ ahead) = fed-more limit since new ahead count g in
     let limit_is : new.limit ≡ limit = ap (λ (state : FeedState). state.limit) is in
-    let text_is : new.text ≡ take (limit + 2) line = ap (λ (state : FeedState). state.text) is ∙ ap (take (limit + 2)) (before_feed-append since ahead t.no_feed) in
-    (whole, limit_is, (without_return line, (
-      ap (λ bytes. waiting limit (without_return bytes)) text_is ∙ waiting-cut limit line,
-      lines_of-taken begun t.taken ahead (without_return line) count before left t.consumed (λ rest. lines_of-fed limit since new ahead count rest t.no_feed g whole),
-    )))
+    let text_is : new.text ≡ take (limit + 2) line = ap (λ (state : FeedState). state.text) is ∙ ap (take (limit + 2)) (before_feed-append since ahead t.no_feed) in (
+      whole,
+      limit_is,
+      (
+        without_return line,
+        (
+          ap (λ bytes. waiting limit (without_return bytes)) text_is ∙ waiting-cut limit line,
+          lines_of-taken begun t.taken ahead (without_return line) count before left t.consumed (λ rest. lines_of-fed limit since new ahead count rest t.no_feed g whole),
+        ),
+      ),
+    )
 
 -- ---- what fetch answers
 
@@ -228,19 +224,20 @@ told_cut limit begun taken kept (Some old) None h k c = absurd c
 told_cut limit begun taken kept (Some old) (Some new) h k c =
     (begun ++ taken, (new, (h, ap (λ bytes. begun ++ bytes) c ∙ sym (append_assoc begun taken new), ap (λ bytes. bytes ++ new) k)))
 
+-- the first line of bytes without LF and others with one
+lines_of-front : (front rest : List ℕ) → has_feed front ≡ false → has_feed rest ≡ true → lines_of (front ++ rest) ≡ without_return (front ++ before_feed rest) ∷ lines_of (drop (length (take_through 10 rest)) rest)
+lines_of-front front rest h e =
+    let line = front ++ before_feed rest in
+    let more = drop (length (take_through 10 rest)) rest in
+    let parts : front ++ rest ≡ line ++ 10 ∷ more = ap (λ bytes. front ++ bytes) (piece_parts rest e) ∙ sym (append_assoc front (before_feed rest) (10 ∷ more)) in
+    ap lines_of parts ∙ lines_of-feed line more (open-append front (before_feed rest) h (open-before_feed rest))
+
 -- bytes without LF are a front of the first line, or all but its CR
 begins_long : (count : ℕ) (front rest : List ℕ) → has_feed front ≡ false → count + 1 ≤ length front → BeginsLong count (front ++ rest)
 begins_long count front rest h many = elim (cases_Bool (has_feed rest)) [
-  | inl e ↦ with_feed e
+  | inl e ↦ (without_return (front ++ before_feed rest), (lines_of (drop (length (take_through 10 rest)) rest), (lines_of-front front rest h e, omega (arith, length-without_return (front ++ before_feed rest), length-append front (before_feed rest)))))
   | inr e ↦ (front ++ rest, ([], (lines_of-last (front ++ rest) (open-append front rest h e) (omega (arith, length-append front rest)), omega (arith, length-append front rest))))
 ]
-  where
-    with_feed : has_feed rest ≡ true → BeginsLong count (front ++ rest)
-    with_feed e =
-        let line = front ++ before_feed rest in
-        let more = drop (length (take_through 10 rest)) rest in
-        let parts : front ++ rest ≡ line ++ 10 ∷ more = ap (λ bytes. front ++ bytes) (piece_parts rest e) ∙ sym (append_assoc front (before_feed rest) (10 ∷ more)) in
-        (without_return line, (lines_of more, (ap lines_of parts ∙ lines_of-feed line more (open-append front (before_feed rest) h (open-before_feed rest)), omega (arith, length-without_return line, length-append front (before_feed rest)))))
 
 told_long : (limit count : ℕ) (begun taken kept : List ℕ) (before after : Option (List ℕ)) → has_feed (begun ++ taken) ≡ false → kept ≡ take (limit + 2) (begun ++ taken) → count + 1 ≤ length taken → Consumes before after taken → IfTold before after (λ old new. BeginsLong count (begun ++ old) × LosesExcess limit (begun ++ old) (kept ++ new))
 told_long limit count begun taken kept None after h k many c = tt
@@ -254,11 +251,13 @@ pub Fetches-last : (feed new : FeedState) (buffer buffer' : List ℕ) (left left
 Fetches-last feed new buffer buffer' left left' (t, end) some =
     let line = feed.text ++ t.taken in
     let text_is = text-open feed.limit new line t.no_feed t.held in
-    let limit_is = ap (λ (state : FeedState). state.limit) t.held in
-    (line, (
-      ap (λ n. waiting n new.text) limit_is ∙ ap (waiting feed.limit) text_is ∙ waiting-cut_whole feed.limit line,
-      IfTold-held feed.text [] buffer buffer' left left' (λ old new. lines_of old ≡ line ∷ lines_of new) (told_last feed.text t.taken (prepend_known buffer left) (prepend_known buffer' left') t.no_feed (omega (arith, ap length text_is, length-take (feed.limit + 2) line)) t.consumed end),
-    ))
+    let limit_is = ap (λ (state : FeedState). state.limit) t.held in (
+      line,
+      (
+        ap (λ n. waiting n new.text) limit_is ∙ ap (waiting feed.limit) text_is ∙ waiting-cut_whole feed.limit line,
+        IfTold-held feed.text [] buffer buffer' left left' (λ old new. lines_of old ≡ line ∷ lines_of new) (told_last feed.text t.taken (prepend_known buffer left) (prepend_known buffer' left') t.no_feed (omega (arith, ap length text_is, length-take (feed.limit + 2) line)) t.consumed end),
+      ),
+    )
 
 pub Fetches-end : (feed new : FeedState) (buffer buffer' : List ℕ) (left left' : Option (List ℕ)) → Seeks feed.limit feed.text new (prepend_known buffer left) (prepend_known buffer' left') (Ok End) → buffer' ≡ [] → new.text ≡ [] → Fetches (state_of Begun feed buffer) (state_of Begun new buffer') left left' (Ok End)
 Fetches-end feed new buffer buffer' left left' (t, end) drained none =
@@ -292,3 +291,56 @@ shown_none feed shows more = elim (cases_Bool (feed.is_whole || eqb (length feed
   | inl e ↦ nil_from_length feed.text (eqb-true (length feed.text) 0 (ap (λ t. t || eqb (length feed.text) 0) (sym more) ∙ e))
   | inr e ↦ absurd (MatchBool-at_false (More ≡ More) (ShowsLine feed.limit feed.text More) e shows)
 ]
+
+-- ---- what a failure loses
+
+-- lines that begin alike, up to two bytes past the limit, wait alike
+waiting-same : (limit : ℕ) (line other : List ℕ) → take (limit + 2) line ≡ take (limit + 2) other → waiting limit (without_return line) ≡ waiting limit (without_return other)
+waiting-same limit line other e =
+    sym (waiting-cut limit line) ∙ ap (λ bytes. waiting limit (without_return bytes)) e ∙ waiting-cut limit other
+
+waiting-same_whole : (limit : ℕ) (line other : List ℕ) → take (limit + 2) line ≡ take (limit + 2) other → waiting limit line ≡ waiting limit other
+waiting-same_whole limit line other e =
+    sym (waiting-cut_whole limit line) ∙ ap (waiting limit) e ∙ waiting-cut_whole limit other
+
+-- what a feed keeps of a line goes on as the line does
+kept-more : (limit : ℕ) (line after : List ℕ) → has_feed line ≡ false → fed limit (line ++ after) ≡ fed limit (take (limit + 2) line ++ after)
+kept-more limit line after h =
+    let new = with_piece (fed limit line) after in
+    let count = length (take_through 10 after) in
+    let F : FeedState → Type 0 = λ state. Feeds state new after count in
+    let feeds : Feeds (fed limit line) new after count = record { waits = λ whole. absurd (false≢true (sym h ∙ whole)); takes = λ _. (refl, refl) } in
+    sym (fed-more limit line new after count feeds) ∙ fed-more limit (take (limit + 2) line) new after count (subst F (fed-kept limit line h) feeds)
+
+kept-same : (limit : ℕ) (line after : List ℕ) → has_feed line ≡ false → has_feed after ≡ false → take (limit + 2) (line ++ after) ≡ take (limit + 2) (take (limit + 2) line ++ after)
+kept-same limit line after h k =
+    let kept = take (limit + 2) line in
+    sym (text-open limit (fed limit (line ++ after)) (line ++ after) (open-append line after h k) refl) ∙ ap (λ (state : FeedState). state.text) (kept-more limit line after h) ∙ text-open limit (fed limit (kept ++ after)) (kept ++ after) (open-append kept after (open-take (limit + 2) line h) k) refl
+
+-- a text with a front without LF, and the same with that front cut
+KeepsLines-cut : (limit : ℕ) (line rest : List ℕ) → has_feed line ≡ false → KeepsLines limit (line ++ rest) (take (limit + 2) line ++ rest)
+KeepsLines-cut limit line rest h = elim (cases_Bool (has_feed rest)) [
+  | inl e ↦ with_feed e
+  | inr e ↦ elim (cases_lt 0 (length (line ++ rest))) [ inl some ↦ with_last e some | inr none ↦ inl (with_none none) ]
+]
+  where
+    shut : has_feed (take (limit + 2) line) ≡ false
+    shut = open-take (limit + 2) line h
+
+    with_feed : has_feed rest ≡ true → KeepsLines limit (line ++ rest) (take (limit + 2) line ++ rest)
+    with_feed e =
+        let after = before_feed rest in
+        inr (without_return (line ++ after), (without_return (take (limit + 2) line ++ after), (lines_of (drop (length (take_through 10 rest)) rest), (lines_of-front line rest h e, lines_of-front (take (limit + 2) line) rest shut e, waiting-same limit (line ++ after) (take (limit + 2) line ++ after) (kept-same limit line after h (open-before_feed rest))))))
+
+    with_last : has_feed rest ≡ false → 0 < length (line ++ rest) → KeepsLines limit (line ++ rest) (take (limit + 2) line ++ rest)
+    with_last e some =
+        let more : 0 < length (take (limit + 2) line ++ rest) = omega (arith, length-append line rest, length-append (take (limit + 2) line) rest, length-take (limit + 2) line) in
+        inr (line ++ rest, (take (limit + 2) line ++ rest, ([], (lines_of-last (line ++ rest) (open-append line rest h e) some, lines_of-last (take (limit + 2) line ++ rest) (open-append (take (limit + 2) line) rest shut e) more, waiting-same_whole limit (line ++ rest) (take (limit + 2) line ++ rest) (kept-same limit line rest h e)))))
+
+    with_none : length (line ++ rest) ≤ 0 → lines_of (line ++ rest) ≡ lines_of (take (limit + 2) line ++ rest)
+    with_none none =
+        let few : length (take (limit + 2) line ++ rest) ≡ 0 = omega (arith, length-append line rest, length-append (take (limit + 2) line) rest, length-take (limit + 2) line) in
+        ap lines_of (nil_from_length (line ++ rest) (omega arith) ∙ sym (nil_from_length (take (limit + 2) line ++ rest) few))
+
+pub KeepsLines-excess : (limit : ℕ) (old new : List ℕ) → LosesExcess limit old new → KeepsLines limit old new
+KeepsLines-excess limit old new (line, (rest, (h, o, n))) = rw (o, n) (KeepsLines-cut limit line rest h)

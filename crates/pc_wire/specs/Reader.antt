@@ -1,5 +1,5 @@
 -- What a line reader holds, and what it reads.
-use Rattle.std.specs.Prelude.{◌≡◌, ℕ, ◌+◌, ◌-◌, ◌^◌, ◌≤◌, ⊤, false, List, [], ◌∷◌, ◌++◌, length, take, nat_lt, if◌then◌else◌, Option, Some, None, Result, Ok, Err}
+use Rattle.std.specs.Prelude.{◌≡◌, ℕ, ◌+◌, ◌-◌, ◌^◌, ◌≤◌, ⊤, false, List, [], ◌∷◌, ◌++◌, ◌⊎◌, length, take, nat_lt, if◌then◌else◌, Option, Some, None, Result, Ok, Err}
 use Rattle.std.specs.Io.KnownBytes.{prepend_known}
 use Rattle.pc_base.specs.declared.failure.Failed.{Failed}
 use Rattle.pc_wire.specs.Lines.{has_feed, lines_of}
@@ -40,6 +40,11 @@ IfTold (Some old) (Some new) P = P old new
 abbrev pub LosesExcess : ℕ → List ℕ → List ℕ → Type 0
 LosesExcess limit old new =
     (line : List ℕ) × ((rest : List ℕ) × ((has_feed line ≡ false) × (old ≡ line ++ rest) × (new ≡ take (limit + 2) line ++ rest)))
+
+-- the lines are the same, but that the first may be another one that waits as it does
+abbrev pub KeepsLines : ℕ → List ℕ → List ℕ → Type 0
+KeepsLines limit old new =
+    (lines_of old ≡ lines_of new) ⊎ ((line : List ℕ) × ((other : List ℕ) × ((more : List (List ℕ)) × ((lines_of old ≡ line ∷ more) × (lines_of new ≡ other ∷ more) × (waiting limit line ≡ waiting limit other)))))
 
 -- the first line has at least so many bytes
 abbrev pub BeginsLong : ℕ → List ℕ → Type 0

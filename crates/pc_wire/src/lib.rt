@@ -7,6 +7,7 @@ mod line_feed;
 mod line_reader;
 mod places;
 mod read_buffer;
+pub mod reader_laws;
 mod words;
 
 pub use fetched::Fetched;

@@ -87,11 +87,16 @@ impl LineReader {
 }
 
 /// Reads up to an LF or the end. Answers what the feed holds now, and what `fetch` answers.
-fn seek_line<S: Source>(buffer: &mut ReadBuffer, feed: &mut LineFeed, source: &mut S) -> (Held, Result<Fetched, Failed>)
+fn seek_line<S: Source>(
+    buffer: &mut ReadBuffer,
+    feed: &mut LineFeed,
+    source: &mut S,
+) -> (Held, Result<Fetched, Failed>)
     requires { IsHeld Held.Begun feed.old }
     ensures held { IsHeld result.0 feed.new }
     ensures limit { feed.new.limit ≡ feed.old.limit }
-    ensures lines { Fetches (state_of Held.Begun feed.old buffer.old) (state_of result.0 feed.new buffer.new)
+    ensures lines { Fetches
+        (state_of Held.Begun feed.old buffer.old) (state_of result.0 feed.new buffer.new)
         (S.left source.old) (S.left source.new) result.1 }
     ensures cause { HasCause (S.faults source.old) (S.faults source.new) result.1 }
 {
@@ -109,10 +114,15 @@ fn seek_line<S: Source>(buffer: &mut ReadBuffer, feed: &mut LineFeed, source: &m
 }
 
 /// Feeds what is ahead and what the source gives, up to an LF or the end.
-fn seek_feed<S: Source>(buffer: &mut ReadBuffer, feed: &mut LineFeed, source: &mut S) -> Result<Fetched, Failed>
+fn seek_feed<S: Source>(
+    buffer: &mut ReadBuffer,
+    feed: &mut LineFeed,
+    source: &mut S,
+) -> Result<Fetched, Failed>
     requires { IsHeld Held.Begun feed.old }
     ensures bytes { Seeks feed.old.limit feed.old.text feed.new
-        (prepend_known buffer.old (S.left source.old)) (prepend_known buffer.new (S.left source.new)) result }
+        (prepend_known buffer.old (S.left source.old))
+        (prepend_known buffer.new (S.left source.new)) result }
     ensures drained { result ≡ Ok Fetched.End → buffer.new ≡ [] }
     ensures cause { HasCause (S.faults source.old) (S.faults source.new) result }
 {
@@ -133,7 +143,8 @@ fn seek_feed<S: Source>(buffer: &mut ReadBuffer, feed: &mut LineFeed, source: &m
 /// Feeds what is ahead, up to an LF, and answers whether one came.
 fn feed_ahead(buffer: &mut ReadBuffer, feed: &mut LineFeed) -> bool
     ensures whole { result ≡ feed.new.is_whole }
-    ensures bytes { (count : ℕ) × (Feeds feed.old feed.new buffer.old count × (buffer.new ≡ drop count buffer.old)) }
+    ensures bytes { (count : ℕ)
+        × (Feeds feed.old feed.new buffer.old count × (buffer.new ≡ drop count buffer.old)) }
 {
     let count = feed.feed(buffer.bytes());
     buffer.skip(count);

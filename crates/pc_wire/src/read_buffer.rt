@@ -46,7 +46,8 @@ impl ReadBuffer {
     /// source is at its end.
     pub fn fill<S: Source>(&mut self, source: &mut S) -> Result<bool, Failed>
         ensures bytes { Fills self.new
-            (prepend_known self.old (S.left source.old)) (prepend_known self.new (S.left source.new)) result }
+            (prepend_known self.old (S.left source.old))
+            (prepend_known self.new (S.left source.new)) result }
         ensures cause { HasCause (S.faults source.old) (S.faults source.new) result }
     {
         if self.start < self.end {

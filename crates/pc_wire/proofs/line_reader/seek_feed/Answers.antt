@@ -1,4 +1,4 @@
-use Rattle.std.proofs.Common.{ℕ, ◌+◌, ◌≤◌, List, Ok, sym, subst, ◌∙◌, rules, arith}
+use Rattle.std.proofs.Common.{ℕ, ◌+◌, List, Ok, sym, subst, ◌∙◌, arith}
 use Rattle.std.specs.Io.KnownBytes.{prepend_known}
 use Rattle.pc_wire.specs.Reading.{TakesOpen, Seeks}
 use Rattle.pc_wire.specs.declared.fetched.Fetched.TheVariants.{Waits}

@@ -1,8 +1,4 @@
-use Rattle.std.proofs.Common.{ap, ◌∙◌, ◌≡◌, false, Ok, refl, rules, arith, List, ℕ, Option, Result}
-use Rattle.std.specs.Io.KnownBytes.{prepend_known}
-use Rattle.pc_wire.specs.Reading.{Seeks}
-use Rattle.pc_wire.specs.declared.fetched.Fetched.{Fetched}
-use Rattle.pc_wire.specs.declared.fetched.Fetched.TheVariants.{End, Endless}
+use Rattle.std.proofs.Common.{ap, Ok}
 use Rattle.pc_wire.proofs.ReaderLemmas.{IsHeld-open, TakesOpen-limit, Fetches-last, Fetches-end, Fetches-endless, Fetches-failed, shown_last, shown_none, open-whole}
 use Rattle.pc_wire.proofs.line_reader.seek_line.Goals as goal
 

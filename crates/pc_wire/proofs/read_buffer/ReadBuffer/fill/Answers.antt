@@ -1,4 +1,4 @@
-use Rattle.std.proofs.Common.{◌≡◌, ◌<◌, ◌≤◌, length, sym, ◌∙◌, arith}
+use Rattle.std.proofs.Common.{◌≡◌, length, sym, ◌∙◌, arith}
 use Rattle.pc_wire.proofs.ReaderLemmas.{Fills-read, slice_range-none, take-over}
 use Rattle.pc_wire.proofs.read_buffer.ReadBuffer.fill.Goals as goal
 

@@ -1,4 +1,4 @@
-use Rattle.std.proofs.Common.{◌≤◌, ◌+◌, ◌-◌, length, drop, arith, sym, ap, ◌∙◌, length-take-le, length-drop}
+use Rattle.std.proofs.Common.{length, drop, arith, ap, ◌∙◌}
 use Rattle.pc_wire.proofs.ReaderLemmas.{slice_range-skip, length-slice_range}
 use Rattle.pc_wire.proofs.read_buffer.ReadBuffer.skip.Goals as goal
 
