@@ -1,9 +1,8 @@
 -- A word spells at most one argument of each kind, and then it has no fault.
-use Rattle.std.proofs.Common.{◌≡◌, ◌≢◌, ℕ, suc, ◌^◌, ◌≤◌, ◌<◌, ◌==◌, Bool, true, false, IsTrue, cond, List, [], ◌∷◌, length, map, Option, Some, None, refl, sym, ap, ◌∙◌, subst, arith, nat_lt, nat_le, eq-eqb}
-use Rattle.std.proofs.lemmas.Bool.{false≢true}
+use Rattle.std.proofs.Common.{◌≡◌, ℕ, suc, ◌==◌, true, false, IsTrue, cond, List, [], ◌∷◌, length, map, None, refl, ap, ◌∙◌, arith, eq-eqb}
 use Rattle.std.proofs.lemmas.Bool.Decides.{nat_tests}
-use Rattle.pc_base.specs.Name.{is_name, is_password}
-use Rattle.pc_base.specs.Number.{is_number, decimal_value}
+use Rattle.pc_base.specs.Name.{is_name}
+use Rattle.pc_base.specs.Number.{decimal_value}
 use Rattle.pc_request.specs.Argument.{Argument, IsDigits, digit_of, IsSpelled, AreSpelled}
 use Rattle.pc_request.specs.Argument as argument
 use Rattle.pc_request.specs.Fault.{Kind, is_box, fault_of_word, fault_among, fault_of_arguments}

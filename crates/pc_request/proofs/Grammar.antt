@@ -1,9 +1,9 @@
 -- A line spells at most one request, and then it has no fault.
-use Rattle.std.proofs.Common.{◌≡◌, ℕ, Bool, true, false, List, [], ◌∷◌, map, Option, Some, None, Result, Ok, Err, IfOk, refl, sym, ap, ◌∙◌, subst}
+use Rattle.std.proofs.Common.{◌≡◌, ℕ, Bool, false, List, [], ◌∷◌, map, Some, None, Result, Ok, Err, IfOk, refl, sym, ap, ◌∙◌, subst}
 use Rattle.pc_wire.specs.Words.{words_of}
 use Rattle.pc_request.specs.Argument.{Argument, IsSpelled, AreSpelled}
 use Rattle.pc_request.specs.Argument as argument
-use Rattle.pc_request.specs.Operation.{IsNamed, operation_named}
+use Rattle.pc_request.specs.Operation.{IsNamed}
 use Rattle.pc_request.specs.Reading.{ReadsArguments}
 use Rattle.pc_request.specs.Request.{call_of, SpellCall, IsRequest, IsWritable}
 use Rattle.pc_request.specs.Fault.{kinds_of, fault_of_arguments, fault_of_call, fault_of_words, fault_of}
@@ -121,7 +121,7 @@ fault_of-request which line spells = fault_of_words-request which (words_of line
 
 -- and its numbers are in their ranges
 fit : (which : Request) (others : List (List ℕ)) → AreSpelled (call_of which).1 others → IsWritable which
-unfolding call_of IsWritable IsSpelled
+unfolding call_of IsSpelled
 fit (request.SetMessageFlag uid flag on) (first ∷ second ∷ others) spelled = spelled.1.0.1
 fit (request.FetchChangedDescriptors count) (first ∷ others) spelled = (spelled.0.1, spelled.0.2)
 fit (request.SetMessageFlag uid flag on) [] spelled = absurd spelled

@@ -3,3 +3,4 @@ pub mod ArgumentLemmas
 pub mod Grammar
 pub mod DecimalLemmas
 pub mod Written
+mod Samples

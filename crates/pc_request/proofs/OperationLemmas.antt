@@ -1,5 +1,5 @@
 -- The operation that a word names.
-use Rattle.std.proofs.Common.{◌≡◌, ◌==◌, ℕ, suc, ◌↔◌, cond, ◌+◌, ◌<◌, Bool, true, false, IsTrue, List, length, drop, get_or, map, Option, Some, None, refl, sym, ap, ◌∙◌, add-one, drop-cons}
+use Rattle.std.proofs.Common.{◌≡◌, ◌==◌, ℕ, suc, ◌↔◌, cond, ◌+◌, ◌<◌, Bool, true, false, IsTrue, List, length, drop, get_or, map, Option, Some, refl, sym, ap, ◌∙◌, add-one, drop-cons}
 use Rattle.std.proofs.lemmas.Bool.{false≢true}
 use Rattle.std.proofs.lemmas.Slice.Eq.{bytes_eq-Decides}
 use Rattle.std.specs.Char.{to_ascii_lowercase}
@@ -45,3 +45,9 @@ is_named-is which word shown true is compared =
     (bytes_eq-Decides (map to_ascii_lowercase word) (map to_ascii_lowercase (word_of which))).1 (compared.0 refl ∙ ap (map to_ascii_lowercase) is)
 is_named-is which word shown false is compared =
     unequal (map to_ascii_lowercase word) (map to_ascii_lowercase (word_of which)) (λ e. false≢true (compared.1 (e ∙ ap (map to_ascii_lowercase) (sym is))))
+
+pub one_operation_named : (one other : Operation) (word : List ℕ) → IsNamed one word → IsNamed other word → one ≡ other
+one_operation_named one other word named named' =
+    let found = operation_named-is one word named in
+    let found' = operation_named-is other word named' in
+    cc

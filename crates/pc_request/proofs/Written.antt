@@ -1,6 +1,6 @@
 -- What is written for a request spells it.
-use Rattle.std.proofs.Common.{◌≡◌, ℕ, ◌+◌, ◌^◌, ◌<◌, ◌≤◌, Bool, true, false, ◌&&◌, ◌||◌, IsTrue, nat_lt, nat_le, ◌==◌, cond, decimal, List, [], ◌∷◌, ◌++◌, length, map, refl, sym, ap, ◌∙◌, subst, arith, inl}
-use Rattle.std.specs.List.{list_all, list_any, onto_first}
+use Rattle.std.proofs.Common.{◌≡◌, ℕ, ◌^◌, ◌<◌, Bool, true, false, ◌&&◌, IsTrue, nat_lt, nat_le, List, [], ◌∷◌, ◌++◌, length, map, refl, sym, ap, ◌∙◌, subst, arith, inl}
+use Rattle.std.specs.List.{list_all}
 use Rattle.std.proofs.lemmas.Bool.Decides.{nat_tests}
 use Rattle.pc_base.specs.Name.{is_printed, is_name_byte, is_name, is_password, is_letter}
 use Rattle.pc_base.specs.Number.{is_digit, has_digits, is_number, decimal_value}

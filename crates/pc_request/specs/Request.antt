@@ -58,7 +58,7 @@ abbrev pub line_of : Request → List ℕ
 line_of request = word_of (call_of request).0 ++ written_behind (call_of request).1
 
 -- the request's flag and its count are such as a line can spell
-unfoldable pub IsWritable : Request → Type 0
+abbrev pub IsWritable : Request → Type 0
 IsWritable (request.FetchChangedDescriptors count) = (1 ≤ count) × (count ≤ 256)
 IsWritable (request.SetMessageFlag uid flag on) = flag ≤ 15
 IsWritable _ = ⊤

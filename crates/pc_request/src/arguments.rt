@@ -1,19 +1,19 @@
 //! Arguments, each read from one word.
+#![tactic(auto, unfolding(crate::specs::Argument::IsSpelled, crate::specs::Fault::fault_of_word))]
 
-ghost use Rattle.std.specs.Prelude.{◌≡◌, ◌≢◌, ℕ, Bool, List, [], ◌∷◌, length, MatchResult};
+ghost use Rattle.std.specs.Prelude.{[], ◌∷◌};
 ghost use Rattle.pc_wire.specs.Words.{words_of};
 ghost use Rattle.pc_request.specs.Argument as argument;
 ghost use Rattle.pc_request.specs.Fault as kind;
-ghost use Rattle.pc_request.specs.Reading.{ReadsWord, ReadsWords};
-ghost use Rattle.pc_request.specs.declared.request.RequestFault.TheVariants as fault;
+ghost use Rattle.pc_request.specs.Reading.{TakesWords, ReadsWord};
 
-use crate::request::{Request, RequestFault};
+use crate::request::RequestFault;
 use pc_base::{Name, Password, read_u32};
 use pc_wire::next_word;
 
 /// No word at all.
 pub fn no_word(words: &[u8]) -> Result<(), RequestFault>
-    ensures { MatchResult result (λ _. words_of words.now ≡ []) (λ error. (length (words_of words.now) ≢ 0) × (error ≡ fault.Arguments)) }
+    ensures { TakesWords 0 (λ _. []) (words_of words.now) result }
 {
     match next_word(words) {
         None => Ok(()),
@@ -23,7 +23,7 @@ pub fn no_word(words: &[u8]) -> Result<(), RequestFault>
 
 /// The only word.
 pub fn one_word(words: &[u8]) -> Result<&[u8], RequestFault>
-    ensures { MatchResult result (λ word. words_of words.now ≡ word.now ∷ []) (λ error. (length (words_of words.now) ≢ 1) × (error ≡ fault.Arguments)) }
+    ensures { TakesWords 1 (λ word. word.now ∷ []) (words_of words.now) result }
 {
     let Some((word, others)) = next_word(words) else {
         return Err(RequestFault::Arguments);
@@ -34,7 +34,7 @@ pub fn one_word(words: &[u8]) -> Result<&[u8], RequestFault>
 
 /// The only two words.
 pub fn two_words(words: &[u8]) -> Result<(&[u8], &[u8]), RequestFault>
-    ensures { MatchResult result (λ pair. words_of words.now ≡ pair.0.now ∷ pair.1.now ∷ []) (λ error. (length (words_of words.now) ≢ 2) × (error ≡ fault.Arguments)) }
+    ensures { TakesWords 2 (λ pair. pair.0.now ∷ pair.1.now ∷ []) (words_of words.now) result }
 {
     let Some((first, others)) = next_word(words) else {
         return Err(RequestFault::Arguments);
@@ -45,7 +45,7 @@ pub fn two_words(words: &[u8]) -> Result<(&[u8], &[u8]), RequestFault>
 
 /// The only three words.
 pub fn three_words(words: &[u8]) -> Result<(&[u8], &[u8], &[u8]), RequestFault>
-    ensures { MatchResult result (λ all. words_of words.now ≡ all.0.now ∷ all.1.now ∷ all.2.now ∷ []) (λ error. (length (words_of words.now) ≢ 3) × (error ≡ fault.Arguments)) }
+    ensures { TakesWords 3 (λ all. all.0.now ∷ all.1.now ∷ all.2.now ∷ []) (words_of words.now) result }
 {
     let Some((first, others)) = next_word(words) else {
         return Err(RequestFault::Arguments);
@@ -55,7 +55,6 @@ pub fn three_words(words: &[u8]) -> Result<(&[u8], &[u8], &[u8]), RequestFault>
 }
 
 /// A name.
-#[tactic(auto, unfolding(crate::specs::Argument::IsSpelled, crate::specs::Fault::fault_of_word))]
 pub fn name(word: &[u8]) -> Result<Name, RequestFault>
     ensures { ReadsWord kind.name argument.name word.now result }
 {
@@ -66,7 +65,6 @@ pub fn name(word: &[u8]) -> Result<Name, RequestFault>
 }
 
 /// A password.
-#[tactic(auto, unfolding(crate::specs::Argument::IsSpelled, crate::specs::Fault::fault_of_word))]
 pub fn password(word: &[u8]) -> Result<Password, RequestFault>
     ensures { ReadsWord kind.password argument.password word.now result }
 {
@@ -77,7 +75,6 @@ pub fn password(word: &[u8]) -> Result<Password, RequestFault>
 }
 
 /// A number of 32 bits.
-#[tactic(auto, unfolding(crate::specs::Argument::IsSpelled, crate::specs::Fault::fault_of_word))]
 pub fn number(word: &[u8]) -> Result<u32, RequestFault>
     ensures { ReadsWord kind.number argument.number word.now result }
 {
@@ -88,7 +85,6 @@ pub fn number(word: &[u8]) -> Result<u32, RequestFault>
 }
 
 /// 0 or 1.
-#[tactic(auto, unfolding(crate::specs::Argument::IsSpelled, crate::specs::Fault::fault_of_word))]
 pub fn switch(word: &[u8]) -> Result<bool, RequestFault>
     ensures { ReadsWord kind.switch argument.switch word.now result }
 {
@@ -100,7 +96,6 @@ pub fn switch(word: &[u8]) -> Result<bool, RequestFault>
 }
 
 /// The number of a flag, at most 15.
-#[tactic(auto, unfolding(crate::specs::Argument::IsSpelled, crate::specs::Fault::fault_of_word))]
 pub fn flag(word: &[u8]) -> Result<u8, RequestFault>
     ensures { ReadsWord kind.flag argument.flag word.now result }
 {
@@ -112,7 +107,6 @@ pub fn flag(word: &[u8]) -> Result<u8, RequestFault>
 }
 
 /// How many, from 1 to 256.
-#[tactic(auto, unfolding(crate::specs::Argument::IsSpelled, crate::specs::Fault::fault_of_word))]
 pub fn count(word: &[u8]) -> Result<u32, RequestFault>
     ensures { ReadsWord kind.count argument.count word.now result }
 {

@@ -2,6 +2,7 @@
 #![tactic(auto)]
 
 mod arguments;
+pub mod laws;
 mod operation;
 mod reading;
 mod request;
@@ -10,3 +11,7 @@ mod writing;
 
 pub use operation::Operation;
 pub use request::{Request, RequestFault};
+pub use text::LINE_ROOM;
+
+#[cfg(test)]
+mod tests;

@@ -1,4 +1,5 @@
 //! Requests, read from an operation and the words behind it.
+#![tactic(auto, unfolding(crate::specs::Fault::kinds_of, crate::specs::Request::call_of))]
 
 ghost use Rattle.std.specs.Prelude.{[], ◌∷◌};
 ghost use Rattle.pc_wire.specs.Words.{words_of};
@@ -16,7 +17,6 @@ use pc_base::Name;
 use pc_wire::next_word;
 
 /// The request of this operation with the words as its arguments.
-#[tactic(auto, unfolding(crate::specs::Fault::kinds_of, crate::specs::Request::call_of))]
 pub fn read_arguments(operation: Operation, words: &[u8]) -> Result<Request, RequestFault>
     ensures { ReadsArguments operation (words_of words.now) result }
 {
@@ -58,17 +58,11 @@ pub fn read_arguments(operation: Operation, words: &[u8]) -> Result<Request, Req
             board,
         }),
         Operation::ResetSubscription => reset_subscription(words),
-        Operation::FetchDescriptors => two_numbers(words).map(|(
-            low,
-            high,
-        )| Request::FetchDescriptors { low, high }),
+        Operation::FetchDescriptors => fetch_descriptors(words),
         Operation::FetchChangedDescriptors => one_count(words).map(
             |count| Request::FetchChangedDescriptors { count },
         ),
-        Operation::ResetDescriptors => two_numbers(words).map(|(
-            low,
-            high,
-        )| Request::ResetDescriptors { low, high }),
+        Operation::ResetDescriptors => reset_descriptors(words),
         Operation::FetchHeaders => one_number(words).map(|uid| Request::FetchHeaders { uid }),
         Operation::FetchMessage => one_number(words).map(|uid| Request::FetchMessage { uid }),
         Operation::CopyMessage => copy_message(words),
@@ -105,17 +99,6 @@ fn one_count(words: &[u8]) -> Result<u32, RequestFault>
     count(one_word(words)?)
 }
 
-/// Two arguments, both numbers.
-fn two_numbers(words: &[u8]) -> Result<(u32, u32), RequestFault>
-    ensures { ReadsWords (kind.number ∷ kind.number ∷ []) (λ pair. argument.number pair.0 ∷ argument.number pair.1 ∷ []) (words_of words.now) result }
-{
-    let (first, second) = two_words(words)?;
-    let first = number(first)?;
-    let second = number(second)?;
-    Ok((first, second))
-}
-
-#[tactic(auto, unfolding(crate::specs::Fault::kinds_of, crate::specs::Request::call_of))]
 fn login(words: &[u8]) -> Result<Request, RequestFault>
     ensures { ReadsArguments operation.Login (words_of words.now) result }
 {
@@ -140,7 +123,6 @@ fn login(words: &[u8]) -> Result<Request, RequestFault>
     })
 }
 
-#[tactic(auto, unfolding(crate::specs::Fault::kinds_of, crate::specs::Request::call_of))]
 fn set_password(words: &[u8]) -> Result<Request, RequestFault>
     ensures { ReadsArguments operation.SetPassword (words_of words.now) result }
 {
@@ -161,7 +143,6 @@ fn select_mailbox(words: &[u8]) -> Result<Request, RequestFault>
     }
 }
 
-#[tactic(auto, unfolding(crate::specs::Fault::kinds_of, crate::specs::Request::call_of))]
 fn create_address(words: &[u8]) -> Result<Request, RequestFault>
     ensures { ReadsArguments operation.CreateAddress (words_of words.now) result }
 {
@@ -171,7 +152,6 @@ fn create_address(words: &[u8]) -> Result<Request, RequestFault>
     Ok(Request::CreateAddress { mailbox, address })
 }
 
-#[tactic(auto, unfolding(crate::specs::Fault::kinds_of, crate::specs::Request::call_of))]
 fn reset_subscription(words: &[u8]) -> Result<Request, RequestFault>
     ensures { ReadsArguments operation.ResetSubscription (words_of words.now) result }
 {
@@ -181,7 +161,30 @@ fn reset_subscription(words: &[u8]) -> Result<Request, RequestFault>
     Ok(Request::ResetSubscription { board, uid })
 }
 
-#[tactic(auto, unfolding(crate::specs::Fault::kinds_of, crate::specs::Request::call_of))]
+fn fetch_descriptors(words: &[u8]) -> Result<Request, RequestFault>
+    ensures { ReadsArguments operation.FetchDescriptors (words_of words.now) result }
+{
+    let (low, high) = two_numbers(words)?;
+    Ok(Request::FetchDescriptors { low, high })
+}
+
+fn reset_descriptors(words: &[u8]) -> Result<Request, RequestFault>
+    ensures { ReadsArguments operation.ResetDescriptors (words_of words.now) result }
+{
+    let (low, high) = two_numbers(words)?;
+    Ok(Request::ResetDescriptors { low, high })
+}
+
+/// Two arguments, both numbers.
+fn two_numbers(words: &[u8]) -> Result<(u32, u32), RequestFault>
+    ensures { ReadsWords (kind.number ∷ kind.number ∷ []) (λ pair. argument.number pair.0 ∷ argument.number pair.1 ∷ []) (words_of words.now) result }
+{
+    let (first, second) = two_words(words)?;
+    let first = number(first)?;
+    let second = number(second)?;
+    Ok((first, second))
+}
+
 fn copy_message(words: &[u8]) -> Result<Request, RequestFault>
     ensures { ReadsArguments operation.CopyMessage (words_of words.now) result }
 {
@@ -191,7 +194,6 @@ fn copy_message(words: &[u8]) -> Result<Request, RequestFault>
     Ok(Request::CopyMessage { uid, mailbox })
 }
 
-#[tactic(auto, unfolding(crate::specs::Fault::kinds_of, crate::specs::Request::call_of))]
 fn set_message_flag(words: &[u8]) -> Result<Request, RequestFault>
     ensures { ReadsArguments operation.SetMessageFlag (words_of words.now) result }
 {

@@ -1,6 +1,6 @@
 //! Requests.
 
-ghost use Rattle.std.specs.Prelude.{◌≡◌, ◌≤◌, ◌++◌, [], ◌∷◌, length, IfOk, IfErr, Some, Ok, Err};
+ghost use Rattle.std.specs.Prelude.{◌≡◌, ◌+◌, ◌≤◌, ◌++◌, [], ◌∷◌, length, IfOk, IfErr};
 ghost use Rattle.pc_base.specs.Stream.{HasCause, WritesAll};
 ghost use Rattle.pc_wire.specs.Lines.{IsSpelling};
 ghost use Rattle.pc_request.specs.Request.{call_of, IsRequest, line_of, IsWritable};
@@ -153,7 +153,7 @@ impl Request {
         requires { IsWritable self.now }
         ensures value { result ≡ line_of self.now }
         ensures read { IsRequest self.now result }
-        ensures short { length result ≤ 166 }
+        ensures short { length result + 2 ≤ LINE_ROOM }
     {
         text_of(self).finished()
     }

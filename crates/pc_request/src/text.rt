@@ -1,4 +1,5 @@
 //! The text of a request line while it is written.
+#![tactic(auto, unfolding(crate::specs::Argument::IsSpelled, crate::specs::Argument::written))]
 
 ghost use Rattle.std.specs.Prelude.{◌≡◌, ◌+◌, ◌++◌, ◌<◌, ◌≤◌, [], ◌∷◌, length, decimal};
 ghost use Rattle.pc_request.specs.Argument.{IsSpelled, written, written_behind};
@@ -11,8 +12,8 @@ use itoa::Buffer;
 use pc_base::{Name, Password, ShortText};
 use std::marker::Model;
 
-/// Room for the longest request line and what ends it.
-pub const LINE_ROOM: usize = 168;
+/// Room for any request line and what ends it.
+pub const LINE_ROOM: usize = 165;
 
 /// The words so far, with one space between them.
 #[derive(Drop)]
@@ -76,7 +77,6 @@ impl LineText {
     }
 
     /// With a name behind it.
-    #[tactic(auto, unfolding(crate::specs::Argument::IsSpelled, crate::specs::Argument::written))]
     pub fn with_name(self, name: &Name) -> LineText
         requires { length self + 33 ≤ LINE_ROOM }
         ensures value { result ≡ self ++ written_behind (argument.name name.now ∷ []) }
@@ -87,7 +87,6 @@ impl LineText {
     }
 
     /// With a password behind it.
-    #[tactic(auto, unfolding(crate::specs::Argument::IsSpelled, crate::specs::Argument::written))]
     pub fn with_password(self, password: &Password) -> LineText
         requires { length self + 65 ≤ LINE_ROOM }
         ensures value { result ≡ self ++ written_behind (argument.password password.now ∷ []) }
@@ -98,7 +97,6 @@ impl LineText {
     }
 
     /// With a mailbox that is selected behind it.
-    #[tactic(auto, unfolding(crate::specs::Argument::IsSpelled, crate::specs::Argument::written))]
     pub fn with_mailbox(self, mailbox: &Name) -> LineText
         requires { length self + 33 ≤ LINE_ROOM }
         ensures value { result ≡ self ++ written_behind (argument.mailbox mailbox.now ∷ []) }
@@ -109,7 +107,6 @@ impl LineText {
     }
 
     /// With a board that is selected behind it.
-    #[tactic(auto, unfolding(crate::specs::Argument::IsSpelled, crate::specs::Argument::written))]
     pub fn with_board(self, board: &Name) -> LineText
         requires { length self + 34 ≤ LINE_ROOM }
         ensures value { result ≡ self ++ written_behind (argument.board board.now ∷ []) }

@@ -1,12 +1,12 @@
 //! Requests, written as the text of a line.
 
-ghost use Rattle.std.specs.Prelude.{◌≡◌, ◌++◌, ◌≤◌, [], ◌∷◌, length, map};
+ghost use Rattle.std.specs.Prelude.{◌≡◌, ◌+◌, ◌++◌, ◌≤◌, [], ◌∷◌, length, map};
 ghost use Rattle.pc_wire.specs.Lines.{IsSpelling};
 ghost use Rattle.pc_request.specs.Argument.{AreSpelled, written, written_behind};
 ghost use Rattle.pc_request.specs.Request.{call_of, line_of, IsRequest, IsWritable};
 
 use crate::request::Request;
-use crate::text::LineText;
+use crate::text::{LINE_ROOM, LineText};
 
 /// The words of the request, with one space between them.
 pub fn text_of(request: &Request) -> LineText
@@ -14,19 +14,19 @@ pub fn text_of(request: &Request) -> LineText
     ensures value { result ≡ line_of request.now }
     ensures read { IsRequest request.now (line_of request.now) }
     ensures spelling { IsSpelling (line_of request.now ++ 13 ∷ 10 ∷ []) (line_of request.now) }
-    ensures short { length result ≤ 166 }
+    ensures short { length result + 2 ≤ LINE_ROOM }
 {
     with_arguments(request, LineText::new(request.operation()))
 }
 
 /// The text with the request's arguments behind it.
-#[tactic(auto, unfolding(crate::specs::Request::call_of, crate::specs::Request::IsWritable))]
+#[tactic(auto, unfolding(crate::specs::Request::call_of))]
 fn with_arguments(request: &Request, text: LineText) -> LineText
     requires room { length text ≤ 28 }
     requires writable { IsWritable request.now }
     ensures value { result ≡ text ++ written_behind (call_of request.now).1 }
     ensures spelled { AreSpelled (call_of request.now).1 (map written (call_of request.now).1) }
-    ensures short { length result ≤ 166 }
+    ensures short { length result + 2 ≤ LINE_ROOM }
 {
     match request {
         Request::SendVersion { version } => text.with_number(*version),
