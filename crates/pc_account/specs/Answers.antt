@@ -1,5 +1,6 @@
 -- What an account answers: to wishes, and to questions.
 use Rattle.std.specs.Prelude.{ℕ, ◌≡◌, List, map, Option, Some, None, Result, Ok, Err, if◌then◌else◌}
+use Rattle.pc_base.specs.declared.refusal.Refusal.{Refusal}
 use Rattle.pc_base.specs.declared.refusal.Refusal.TheVariants.{MailboxExists, LimitReached}
 use Rattle.pc_base.specs.declared.refusal.LimitWord.TheVariants.{Mailboxes}
 use Rattle.pc_account.specs.declared.entry.Entry.{Entry}
@@ -16,12 +17,17 @@ use Rattle.pc_account.specs.declared.answer.Answer.TheVariants as answer
 use Rattle.pc_account.specs.History.{History, is_live, has_room, password, is_password, mailboxes}
 
 -- the entry that a wish comes to, none where it holds already, or the first refusal that applies
-abbrev pub planned : History → Wish → Result (Option Entry) AskFault
+abbrev pub planned : History → Wish → Result (Option Entry) Refusal
 planned history (wish.MakeMailbox mailbox) =
-    if is_live history mailbox then Err (Refused MailboxExists)
-    else (if has_room history mailbox then Ok (Some (entry.MakeMailbox mailbox)) else Err (Refused (LimitReached Mailboxes)))
+    if is_live history mailbox then Err MailboxExists
+    else (if has_room history mailbox then Ok (Some (entry.MakeMailbox mailbox)) else Err (LimitReached Mailboxes))
 planned history (wish.Password digest) =
     if is_password (password history) digest then Ok None else Ok (Some (entry.Password digest))
+
+-- a plan as an account tells it
+abbrev pub told : Result (Option Entry) Refusal → Result (Option Entry) AskFault
+told (Ok entry) = Ok entry
+told (Err refusal) = Err (Refused refusal)
 
 -- a mailbox as a list shows it; no entry puts messages into one yet
 abbrev pub row_of : List ℕ → MailboxRow

@@ -3,7 +3,7 @@
 ghost use Rattle.std.specs.Prelude.{◌≡◌, not, ◌&&◌, [], ◌∷◌, ◌++◌, map, IsTrue, OnOk, OnErr, IfOk, IfSome};
 ghost use Rattle.pc_account.specs.declared.entry.Wish.TheVariants.{MakeMailbox};
 ghost use Rattle.pc_account.specs.History.{history_of, is_live, names_made, has_room, is_allowed, password, is_password, IsLegal, makes as making, makes_some, added_by, digest_set, later_or};
-ghost use Rattle.pc_account.specs.Answers.{planned, row_of, rows_of, HasAnswer};
+ghost use Rattle.pc_account.specs.Answers.{planned, told, row_of, rows_of, HasAnswer};
 
 use crate::answer::{Answer, MailboxRow, MailboxRows, Question};
 use crate::entry::{AskFault, Entry, Wish};
@@ -73,7 +73,7 @@ impl Account {
     /// The entry that a wish comes to, or none where it holds already. Refused is a mailbox that is
     /// there (410), and one more name than 64 (418).
     pub fn plan(&self, wish: &Wish) -> Result<Option<Entry>, AskFault>
-        ensures exact { result ≡ planned (history_of self.now) wish.now }
+        ensures exact { result ≡ told (planned (history_of self.now) wish.now) }
         ensures allowed { IfOk result (λ entry. IfSome entry (λ e. IsTrue (is_allowed (history_of self.now) e))) }
     {
         match wish {
@@ -121,7 +121,7 @@ fn may_make(entries: &[Entry], mailbox: &Name) -> bool
 
 fn planned_mailbox(entries: &[Entry], mailbox: &Name) -> Result<Option<Entry>, AskFault>
     requires { IsLegal (history_of entries.now) }
-    ensures { result ≡ planned (history_of entries.now) (MakeMailbox mailbox.now) }
+    ensures { result ≡ told (planned (history_of entries.now) (MakeMailbox mailbox.now)) }
 {
     if has_mailbox(entries, mailbox) {
         return Err(AskFault::Refused(Refusal::MailboxExists));

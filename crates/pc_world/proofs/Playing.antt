@@ -1,5 +1,5 @@
 -- What a replay keeps from line to line, and what it comes to at each end.
-use Rattle.std.proofs.Common.{◌≡◌, ℕ, ◌+◌, ◌-◌, ◌^◌, ◌≤◌, ◌<◌, Bool, true, false, IsTrue, is_some, List, [], ◌∷◌, ◌++◌, length, take, drop, Option, Some, None, IfSome, MatchOption, Result, Ok, Err, IsOk, ◌⊎◌, inl, inr, refl, sym, ap, ◌∙◌, subst, arith, append-nil, append_assoc, length-append}
+use Rattle.std.proofs.Common.{◌≡◌, ℕ, ◌+◌, ◌-◌, ◌^◌, ◌≤◌, ◌<◌, Bool, true, false, IsTrue, is_some, List, [], ◌∷◌, ◌++◌, length, take, drop, Option, Some, None, IfSome, MatchOption, Result, Ok, Err, IsOk, ◌⊎◌, inl, inr, refl, sym, ap, ◌∙◌, subst, arith, lit≤, append-nil, append_assoc, length-append}
 use Rattle.std.proofs.lemmas.List.{take-append-drop, take_all}
 use Rattle.std.proofs.lemmas.List.Concat.{flat_map-append}
 use Rattle.std.specs.Io.KnownBytes.{Appends, prepend_known}
@@ -45,6 +45,7 @@ pub record IsPlayed (script unread before after : Option (List ℕ)) (world : Li
   pub out : List ℕ
   pub told : IfTold script unread (λ bytes rest. lines_of bytes ≡ lines_in events ++ lines_of rest)
   pub counted : length (lines_in events) ≡ count
+  pub few : count ≤ most_lines
   pub chain : Chain [] events printed world
   pub appended : Appends before after out
   pub text : out ++ pending ≡ text_of printed
@@ -60,6 +61,7 @@ IsPlayed-none script before = record {
   out = [];
   told = IfTold-start script;
   counted = refl;
+  few = lit≤ tt;
   chain = (refl, refl);
   appended = Appends-nil before;
   text = refl;
@@ -93,17 +95,19 @@ told_more (Some bytes) (Some rest) (Some rest') events line told more =
     ∙ ap (λ (lines : List (List ℕ)). lines ++ lines_of rest') (sym (lines_in-push events (line ∷ [])))
 
 pub IsPlayed-more : (script unread unread' before after : Option (List ℕ)) (world next : List Account) (pending pending' : List ℕ) (count : ℕ) (line : List ℕ) (printed : List (List ℕ))
+    → count < most_lines
     → IsPlayed script unread before after world pending count
     → IfTold unread unread' (λ bytes rest. lines_of bytes ≡ line ∷ lines_of rest)
     → Plays world (line ∷ []) printed next
     → pending' ≡ pending ++ text_of printed
     → IsPlayed script unread' before after next pending' (count + 1)
-IsPlayed-more script unread unread' before after world next pending pending' count line printed played more plays shown = record {
+IsPlayed-more script unread unread' before after world next pending pending' count line printed within played more plays shown = record {
   events = played.events ++ (line ∷ []) ∷ [];
   printed = played.printed ++ printed;
   out = played.out;
   told = told_more script unread unread' played.events line played.told more;
   counted = ap length (lines_in-push played.events (line ∷ [])) ∙ length-append (lines_in played.events) (line ∷ []) ∙ ap (λ n. n + 1) played.counted;
+  few = omega arith;
   chain = Chain-push [] played.events played.printed world (line ∷ []) printed next played.chain plays;
   appended = played.appended;
   text = ap (λ (bytes : List ℕ). played.out ++ bytes) shown ∙ sym (append_assoc played.out pending (text_of printed)) ∙ ap (λ (bytes : List ℕ). bytes ++ text_of printed) played.text ∙ sym (text_of-append played.printed printed);
@@ -118,6 +122,7 @@ IsPlayed-sent script unread before after after' world pending count played sent 
   out = played.out ++ pending;
   told = played.told;
   counted = played.counted;
+  few = played.few;
   chain = played.chain;
   appended = Appends-trans before after after' played.out pending played.appended sent;
   text = append-nil (played.out ++ pending) ∙ played.text;
@@ -139,17 +144,20 @@ front_written : (script unread before after after' : Option (List ℕ)) (world :
     → IsPlayed script unread before after world pending count → Appends after after' (take shown pending) → Writes script before after' IsFront
 front_written None unread before after after' world pending count shown played sent = tt
 front_written (Some bytes) None before after after' world pending count shown played sent = absurd played.told
-front_written (Some bytes) (Some rest) before after after' world pending count shown played sent =
-    (played.out ++ take shown pending,
-     (Appends-trans before after after' played.out (take shown pending) played.appended sent,
-      record {
-        rest = lines_of rest;
-        printed = played.printed;
-        last = world;
-        begins = record { events = played.events; split = played.told; chain = played.chain };
-        more = drop shown pending;
-        text_is = append_assoc played.out (take shown pending) (drop shown pending) ∙ ap (λ (text : List ℕ). played.out ++ text) (take-append-drop shown pending) ∙ played.text;
-      }))
+front_written (Some bytes) (Some rest) before after after' world pending count shown played sent = (
+  played.out ++ take shown pending,
+  (
+    Appends-trans before after after' played.out (take shown pending) played.appended sent,
+    record {
+      rest = lines_of rest;
+      printed = played.printed;
+      last = world;
+      begins = record { events = played.events; split = played.told; few = rw played.counted played.few; chain = played.chain };
+      more = drop shown pending;
+      text_is = append_assoc played.out (take shown pending) (drop shown pending) ∙ ap (λ (text : List ℕ). played.out ++ text) (take-append-drop shown pending) ∙ played.text;
+    },
+  ),
+)
 
 all_taken : (pending : List ℕ) → take (length pending) pending ≡ pending
 all_taken pending = take_all (length pending) pending (omega arith)
@@ -202,34 +210,36 @@ some_end (byte ∷ ahead) (Some left) rest known empty = cc
 -- the input has no more line, and few lines were played
 done : (script left unread before after after' : Option (List ℕ)) (ahead : List ℕ) (world : List Account) (pending : List ℕ) (count : ℕ)
     → IsPlayed script unread before after world pending count
-    → count ≤ most_lines
     → IfTold unread (prepend_known ahead left) (λ bytes rest. (lines_of bytes ≡ []) × (rest ≡ []))
     → Appends after after' pending
     → Ends script left before after' Done
-done None left unread before after after' ahead world pending count played few ended written = (tt, tt)
-done (Some bytes) left None before after after' ahead world pending count played few ended written = absurd played.told
-done (Some bytes) None (Some rest) before after after' ahead world pending count played few ended written = absurd ended
-done (Some bytes) (Some left) (Some rest) before after after' ahead world pending count played few ended written =
-    let split : lines_of bytes ≡ lines_in played.events ++ [] = played.told ∙ ap (λ (lines : List (List ℕ)). lines_in played.events ++ lines) ended.0 in
-    (some_end ahead (Some left) (ahead ++ left) refl ended.1,
-     (played.out ++ pending,
-      (Appends-trans before after after' played.out pending played.appended written,
-       record {
-         printed = played.printed;
-         last = world;
-         run = record { events = played.events; split = split; chain = played.chain };
-         text = played.text;
-         few = rw (ap length split, append-nil, played.counted) few;
-       })))
+done None left unread before after after' ahead world pending count played ended written = (tt, tt)
+done (Some bytes) left None before after after' ahead world pending count played ended written = absurd played.told
+done (Some bytes) None (Some rest) before after after' ahead world pending count played ended written = absurd ended
+done (Some bytes) (Some left) (Some rest) before after after' ahead world pending count played ended written =
+    let split : lines_of bytes ≡ lines_in played.events ++ [] = played.told ∙ ap (λ (lines : List (List ℕ)). lines_in played.events ++ lines) ended.0 in (
+      some_end ahead (Some left) (ahead ++ left) refl ended.1,
+      (
+        played.out ++ pending,
+        (
+          Appends-trans before after after' played.out pending played.appended written,
+          record {
+            printed = played.printed;
+            last = world;
+            run = record { events = played.events; split = split; few = rw played.counted played.few; chain = played.chain };
+            text = played.text;
+          },
+        ),
+      ),
+    )
 
 pub Ends-done : (script left unread before after after' : Option (List ℕ)) (ahead : List ℕ) (world : List Account) (pending : List ℕ) (count faults faults' : ℕ) (result : ReplayEnd)
     → IsPlayed script unread before after world pending count
-    → count ≤ most_lines
     → IfTold unread (prepend_known ahead left) (λ bytes rest. (lines_of bytes ≡ []) × (rest ≡ []))
     → Finishes after after' faults faults' pending Done result
     → Ends script left before after' result
-Ends-done script left unread before after after' ahead world pending count faults faults' result played few ended finished =
-    ends_by script left unread before after after' world pending count faults faults' Done result played finished (done script left unread before after after' ahead world pending count played few ended)
+Ends-done script left unread before after after' ahead world pending count faults faults' result played ended finished =
+    ends_by script left unread before after after' world pending count faults faults' Done result played finished (done script left unread before after after' ahead world pending count played ended)
 
 -- the next line stops the world, where its number is within the limit
 abbrev pub StopsAt : List Account → ℕ → List ℕ → Type 0
@@ -240,38 +250,39 @@ number_is front line rest all count counted split = omega (arith, ap length spli
 
 refused : (script left unread before after after' : Option (List ℕ)) (world : List Account) (pending : List ℕ) (count : ℕ)
     → IsPlayed script unread before after world pending count
-    → count ≤ most_lines
     → IfSome unread (StopsAt world (count + 1))
     → Appends after after' pending
     → Ends script left before after' (Refused (count + 1))
-refused None left unread before after after' world pending count played few stops written = tt
-refused (Some bytes) left None before after after' world pending count played few stops written = absurd played.told
-refused (Some bytes) left (Some unread) before after after' world pending count played few stops written =
+refused None left unread before after after' world pending count played stops written = tt
+refused (Some bytes) left None before after after' world pending count played stops written = absurd played.told
+refused (Some bytes) left (Some unread) before after after' world pending count played stops written =
     let line = stops.0 in
     let rest = stops.1.0 in
-    let split : lines_of bytes ≡ lines_in played.events ++ line ∷ rest = played.told ∙ ap (λ (lines : List (List ℕ)). lines_in played.events ++ lines) stops.1.1.0 in
-    (played.out ++ pending,
-     (Appends-trans before after after' played.out pending played.appended written,
-      record {
-        line = line;
-        rest = rest;
-        printed = played.printed;
-        last = world;
-        begins = record { events = played.events; split = split; chain = played.chain };
-        number_is = number_is (lines_in played.events) line rest (lines_of bytes) count played.counted split;
-        within = omega (arith, few);
-        text_is = played.text;
-        stops = stops.1.1.1;
-      }))
+    let split : lines_of bytes ≡ lines_in played.events ++ line ∷ rest = played.told ∙ ap (λ (lines : List (List ℕ)). lines_in played.events ++ lines) stops.1.1.0 in (
+      played.out ++ pending,
+      (
+        Appends-trans before after after' played.out pending played.appended written,
+        record {
+          line = line;
+          rest = rest;
+          printed = played.printed;
+          last = world;
+          begins = record { events = played.events; split = split; few = rw played.counted played.few; chain = played.chain };
+          number_is = number_is (lines_in played.events) line rest (lines_of bytes) count played.counted split;
+          within = omega (arith, played.few);
+          text_is = played.text;
+          stops = stops.1.1.1;
+        },
+      ),
+    )
 
 pub Ends-refused : (script left unread before after after' : Option (List ℕ)) (world : List Account) (pending : List ℕ) (count faults faults' : ℕ) (result : ReplayEnd)
     → IsPlayed script unread before after world pending count
-    → count ≤ most_lines
     → IfSome unread (StopsAt world (count + 1))
     → Finishes after after' faults faults' pending (Refused (count + 1)) result
     → Ends script left before after' result
-Ends-refused script left unread before after after' world pending count faults faults' result played few stops finished =
-    ends_by script left unread before after after' world pending count faults faults' (Refused (count + 1)) result played finished (refused script left unread before after after' world pending count played few stops)
+Ends-refused script left unread before after after' world pending count faults faults' result played stops finished =
+    ends_by script left unread before after after' world pending count faults faults' (Refused (count + 1)) result played finished (refused script left unread before after after' world pending count played stops)
 
 pub StopsAt-stops : (unread : Option (List ℕ)) (world : List Account) (number : ℕ) → IfSome unread (Stops world) → IfSome unread (StopsAt world number)
 StopsAt-stops None world number stops = tt

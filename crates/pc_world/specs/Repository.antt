@@ -1,6 +1,7 @@
 -- What a repository of one thread answers to what is asked in a session without client.
 use Rattle.std.specs.Prelude.{◌≡◌, ℕ, List, [], ◌∷◌, ◌++◌, map, codes, decimal, Option, Some, None, Result, Ok, Err}
 use Rattle.pc_base.specs.Refusal.{head_of}
+use Rattle.pc_base.specs.declared.refusal.Refusal.{Refusal}
 use Rattle.pc_base.specs.declared.refusal.Refusal.TheVariants as refusal
 use Rattle.pc_request.specs.declared.request.Request.{Request}
 use Rattle.pc_request.specs.declared.request.Request.TheVariants as request
@@ -9,8 +10,6 @@ use Rattle.pc_request.specs.declared.request.RequestFault.TheVariants as fault
 use Rattle.pc_account.specs.History.{History}
 use Rattle.pc_account.specs.Answers.{planned, rows_of}
 use Rattle.pc_account.specs.declared.answer.MailboxRow.{MailboxRow}
-use Rattle.pc_account.specs.declared.entry.AskFault.{AskFault}
-use Rattle.pc_account.specs.declared.entry.AskFault.TheVariants.{Refused, Memory}
 use Rattle.pc_account.specs.declared.entry.Entry.{Entry}
 use Rattle.pc_account.specs.declared.entry.Wish.TheVariants as wish
 use Rattle.pc_world.specs.declared.event.Asked.{Asked}
@@ -29,10 +28,9 @@ fault_head fault.BadName = head_of refusal.BadName
 fault_head fault.BadFlag = head_of refusal.NoSuchFlag
 
 -- the reply to a request that changes: 200 and its entry, or the refusal
-abbrev pub reply_to_plan : Result (Option Entry) AskFault → Reply
+abbrev pub reply_to_plan : Result (Option Entry) Refusal → Reply
 reply_to_plan (Ok entry) = record { head = codes "200 Ok"; lines = []; entry = entry }
-reply_to_plan (Err (Refused why)) = refused (head_of why)
-reply_to_plan (Err Memory) = refused (codes "500 Want of memory")
+reply_to_plan (Err why) = refused (head_of why)
 
 -- a line of a list of mailboxes
 abbrev pub mailbox_line : MailboxRow → List ℕ

@@ -35,10 +35,11 @@ ended line = line ++ 10 ∷ []
 abbrev pub text_of : List (List ℕ) → List ℕ
 text_of printed = flat_map ended printed
 
--- the events come first in the lines of the script, and the chain over them prints the lines
+-- the events come first in the lines of the script, at most 1,000,000 of them, and the chain over them prints the lines
 pub record Begins (script : List ℕ) (rest printed : List (List ℕ)) (last : List Account) : Type 0 where
   pub events : List (List (List ℕ))
   pub split : lines_of script ≡ lines_in events ++ rest
+  pub few : length (lines_in events) ≤ most_lines
   pub chain : Chain [] events printed last
 
 -- the world goes on: the lines begin with those of an event that it can play
@@ -50,13 +51,12 @@ pub record GoesOn (world : List Account) (lines : List (List ℕ)) : Type 0 wher
   pub next : List Account
   pub plays : Plays world event printed next
 
--- the transcript is that of a run of the script, which is at most 1,000,000 lines
+-- the transcript is that of a run of the whole script
 pub record IsRun (script transcript : List ℕ) : Type 0 where
   pub printed : List (List ℕ)
   pub last : List Account
   pub run : Begins script [] printed last
   pub text : transcript ≡ text_of printed
-  pub few : length (lines_of script) ≤ most_lines
 
 -- whatever events the script begins with, the world goes on with what is left of it
 pub record IsOfForm (script : List ℕ) : Type 0 where

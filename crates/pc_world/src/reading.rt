@@ -17,6 +17,7 @@ use pc_wire::{next_word, without_spaces};
 
 /// The most bytes of a line, and of a request in it.
 const MOST_LINE: usize = 1000;
+
 const MOST_REQUEST: usize = 512;
 
 /// The event that a line is. `Bad` comes exactly where it is none: a line of more than 1,000

@@ -66,7 +66,11 @@ fn reply_to_request(alloc: Global, account: &Account, request: &Request) -> Resu
     ensures allowed { IfOk result (λ reply. IfSome reply.entry (λ entry. IsTrue (is_allowed (history_of account.now) entry))) }
 {
     match request {
-        Request::CreateMailbox { mailbox } => planned(alloc, account, &Wish::MakeMailbox { mailbox: *mailbox }),
+        Request::CreateMailbox { mailbox } => planned(
+            alloc,
+            account,
+            &Wish::MakeMailbox { mailbox: *mailbox },
+        ),
         Request::ListMailboxes => mailboxes(alloc, account),
         _ => Ok(refused(alloc, &Refusal::UnknownOperation)),
     }

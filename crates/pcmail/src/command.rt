@@ -1,8 +1,8 @@
 //! The commands of the program.
 
-ghost use Rattle.std.specs.Prelude.{◌≡◌, ◌≤◌, ◌↔◌, map, codes, IsTrue, string_bytes};
+ghost use Rattle.std.specs.Prelude.{◌≡◌, ◌≤◌, ◌↔◌, map, codes, Some, IsTrue, string_bytes};
 ghost use Rattle.pc_base.specs.Stream.{Rose};
-ghost use Rattle.pcmail.specs.Run.{IsReplay, RunEnds, RunCompletes, status_after};
+ghost use Rattle.pcmail.specs.Run.{IsReplay, RunEnds, RunCompletes, end_of};
 
 use crate::status::Status;
 use pc_base::{Sink, Source};
@@ -11,7 +11,12 @@ use std::alloc::Global;
 
 /// Runs the command that the words name. `replay` plays the script that the input gives and writes
 /// its transcript. Other words are no command yet.
-pub fn run<S: Source, K: Sink>(alloc: Global, words: &[String], input: &mut S, output: &mut K) -> Status
+pub fn run<S: Source, K: Sink>(
+    alloc: Global,
+    words: &[String],
+    input: &mut S,
+    output: &mut K,
+) -> Status
     // Usage comes exactly where the words aren't the one word `replay`.
     ensures usage { (result ≡ Status.Usage) ↔ (IsReplay (map string_bytes words.now) → ⊥) }
 
@@ -51,7 +56,7 @@ fn is_replay_word(word: &String) -> bool
 }
 
 fn status_of(end: ReplayEnd) -> Status
-    ensures { result ≡ status_after end }
+    ensures { end_of result ≡ Some end }
 {
     match end {
         ReplayEnd::Done => Status::Ok,

@@ -8,10 +8,9 @@ mod status;
 pub use command::run;
 pub use standard::{StdSink, StdSource};
 pub use status::{RunError, Status};
-
-use std::env;
-use std::io;
+use std::io::ErrorKind;
 use std::process::ExitCode;
+use std::{env, io};
 
 #[cfg(test)]
 mod tests;
@@ -24,10 +23,13 @@ fn main(rt: HostRuntime) -> ExitCode {
     ExitCode::from(status.code())
 }
 
-/// Runs the command that the program's words name, over the standard streams.
+/// Runs the command that the program's words name, over the standard streams. Words that are no
+/// text are no command.
 fn run_here(rt: &HostRuntime) -> Status {
-    let Ok(words) = words(rt) else {
-        return Status::Memory;
+    let words = match words(rt) {
+        Ok(words) => words,
+        Err(error) if error.kind() == ErrorKind::OutOfMemory => return Status::Memory,
+        Err(_) => return Status::Usage,
     };
     let mut input = StdSource::new(rt.reader());
     let mut output = StdSink::new(io::writer(rt));

@@ -19,14 +19,14 @@ returns-in-Ended-clause-ends g c =
     let faults = g.K.Sink.faults c.loop-number.output in
     let faults' = g.K.Sink.faults c.finish.new.output in
     let finished = Finishes-text (g.K.Sink.written c.loop-number.output) (g.K.Sink.written c.finish.new.output) faults faults' c.play_next.new.text.items c.loop-number.text.items Done c.finish.result c.in-Ended.ensures.turn.1 c.finish.ensures.end in
-    Ends-done _ _ _ _ _ _ c.play_next.new.lines.ahead _ _ c.loop-number.number faults faults' _ c.loop-number.invariant.played (omega arith) c.in-Ended.ensures.turn.0 finished
+    Ends-done _ _ _ _ _ _ c.play_next.new.lines.ahead _ _ c.loop-number.number faults faults' _ c.loop-number.invariant.played c.in-Ended.ensures.turn.0 finished
 
 pub returns-in-Refused-clause-ends : goal.returns-in-Refused-clause-ends
 returns-in-Refused-clause-ends g c =
     let faults = g.K.Sink.faults c.loop-number.output in
     let faults' = g.K.Sink.faults c.finish-in-Refused.new.output in
     let finished = Finishes-text (g.K.Sink.written c.loop-number.output) (g.K.Sink.written c.finish-in-Refused.new.output) faults faults' c.play_next.new.text.items c.loop-number.text.items (Refused (c.loop-number.number + 1)) c.finish-in-Refused.result c.in-Refused.ensures.turn.1 c.finish-in-Refused.ensures.end in
-    Ends-refused _ _ _ _ _ _ _ _ c.loop-number.number faults faults' _ c.loop-number.invariant.played (omega arith) (StopsAt-stops _ _ _ c.in-Refused.ensures.turn.0) finished
+    Ends-refused _ _ _ _ _ _ _ _ c.loop-number.number faults faults' _ c.loop-number.invariant.played (StopsAt-stops _ _ _ c.in-Refused.ensures.turn.0) finished
 
 pub returns-in-ReadFault-clause-ends : goal.returns-in-ReadFault-clause-ends
 returns-in-ReadFault-clause-ends g c =
@@ -45,13 +45,13 @@ returns-in-Memory-clause-ends g c =
 pub returns-in_default-clause-ends : goal.returns-in_default-clause-ends
 returns-in_default-clause-ends g c =
     let turn = c.in-Played.ensures.turn in
-    let played = IsPlayed-more _ _ _ _ _ _ c.play_next.new.world _ c.play_next.new.text.items c.loop-number.number turn.0 turn.1.1.0 c.loop-number.invariant.played turn.1.0 turn.1.1.1.0 turn.1.1.1.1 in
+    let played = IsPlayed-more _ _ _ _ _ _ c.play_next.new.world _ c.play_next.new.text.items c.loop-number.number turn.0 turn.1.1.0 (omega arith) c.loop-number.invariant.played turn.1.0 turn.1.1.1.0 turn.1.1.1.1 in
     Ends-write_fault _ (g.S.Source.left c.play_next.new.input) _ _ _ _ _ _ _ played c.in_default.ensures.content
 
 pub loop-number-preserved : goal.loop-number-preserved
 loop-number-preserved g c =
     let turn = c.in-Played.ensures.turn in
-    let played = IsPlayed-more _ _ _ _ _ _ c.play_next.new.world _ c.play_next.new.text.items c.loop-number.number turn.0 turn.1.1.0 c.loop-number.invariant.played turn.1.0 turn.1.1.1.0 turn.1.1.1.1 in
+    let played = IsPlayed-more _ _ _ _ _ _ c.play_next.new.world _ c.play_next.new.text.items c.loop-number.number turn.0 turn.1.1.0 (omega arith) c.loop-number.invariant.played turn.1.0 turn.1.1.1.0 turn.1.1.1.1 in
     record {
       played = IsPlayed-passed _ _ _ _ _ _ _ c.send_full.new.text.items _ (Ok c.in-Ok.field-0) played refl c.in-Ok.ensures.content;
       waits = c.in-Played.ensures.waits;
@@ -61,9 +61,9 @@ loop-number-preserved g c =
     }
 
 pub returns-in-Ok-End-clause-ends : goal.returns-in-Ok-End-clause-ends
-returns-in-Ok-End-clause-ends g c = 
+returns-in-Ok-End-clause-ends g c =
     let fetched = rw c.in-Ok-End.field-0-is at c.in-Ok-End.ensures.lines in
-    Ends-done _ _ _ _ _ _ c.fetch.new.self.ahead _ _ c.loop-number.number (g.K.Sink.faults c.loop-number.output) (g.K.Sink.faults c.finish-in-Ok-End.new.output) _ c.loop-number.invariant.played (omega arith) fetched.2 c.finish-in-Ok-End.ensures.end
+    Ends-done _ _ _ _ _ _ c.fetch.new.self.ahead _ _ c.loop-number.number (g.K.Sink.faults c.loop-number.output) (g.K.Sink.faults c.finish-in-Ok-End.new.output) _ c.loop-number.invariant.played fetched.2 c.finish-in-Ok-End.ensures.end
 
 pub returns-in-Err-clause-ends : goal.returns-in-Err-clause-ends
 returns-in-Err-clause-ends g c =
@@ -74,11 +74,11 @@ returns-in-Ok-Waits-clause-ends g c =
     let fetched = rw c.in-Ok-Waits.field-0-is at c.in-Ok-Waits.ensures.lines in
     let full : c.loop-number.number ≡ most_lines = omega arith in
     let played = IsPlayed-count _ _ _ _ _ _ _ most_lines full c.loop-number.invariant.played in
-    Ends-refused _ _ _ _ _ _ _ _ most_lines (g.K.Sink.faults c.loop-number.output) (g.K.Sink.faults c.finish-in-Ok-Waits.new.output) _ played (omega arith) (StopsAt-past _ _ _ fetched.0 fetched.1.1) c.finish-in-Ok-Waits.ensures.end
+    Ends-refused _ _ _ _ _ _ _ _ most_lines (g.K.Sink.faults c.loop-number.output) (g.K.Sink.faults c.finish-in-Ok-Waits.new.output) _ played (StopsAt-past _ _ _ fetched.0 fetched.1.1) c.finish-in-Ok-Waits.ensures.end
 
 pub returns-in-Ok-Endless-clause-ends : goal.returns-in-Ok-Endless-clause-ends
 returns-in-Ok-Endless-clause-ends g c =
     let fetched = rw (c.in-Ok-Endless.field-0-is, c.loop-number.invariant.limit) at c.in-Ok-Endless.ensures.lines in
     let full : c.loop-number.number ≡ most_lines = omega arith in
     let played = IsPlayed-count _ _ _ _ _ _ _ most_lines full c.loop-number.invariant.played in
-    Ends-refused _ _ _ _ _ _ _ _ most_lines (g.K.Sink.faults c.loop-number.output) (g.K.Sink.faults c.finish-in-Ok-Endless.new.output) _ played (omega arith) (StopsAt-endless _ _ _ _ fetched.1) c.finish-in-Ok-Endless.ensures.end
+    Ends-refused _ _ _ _ _ _ _ _ most_lines (g.K.Sink.faults c.loop-number.output) (g.K.Sink.faults c.finish-in-Ok-Endless.new.output) _ played (StopsAt-endless _ _ _ _ fetched.1) c.finish-in-Ok-Endless.ensures.end

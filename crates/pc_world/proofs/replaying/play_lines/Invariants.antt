@@ -10,5 +10,5 @@ invariant-loop-number g l = record {
   waits : l.lines.waits ≡ no_line;
   limit : l.lines.limit ≡ 1000;
   input_count : g.S.Source.faults l.initial.input ≤ g.S.Source.faults l.input;
-  output_count : g.K.Sink.faults l.initial.output ≤ g.K.Sink.faults l.output
+  output_count : g.K.Sink.faults l.initial.output ≤ g.K.Sink.faults l.output;
 }
