@@ -12,7 +12,7 @@ use Rattle.pc_wire.specs.LineFeed.{FeedState, fed, with_piece, Feeds, IsOver}
 use Rattle.pc_wire.specs.Next.{ShowsLine, ShowsLast}
 use Rattle.pc_wire.specs.declared.line_feed.Next.{Next}
 use Rattle.pc_wire.specs.declared.line_feed.Next.TheVariants.{More}
-use Rattle.pc_wire.specs.Reader.{waiting, IfTold, TakesLine, LosesExcess, KeepsLines, BeginsLong, Fetches}
+use Rattle.pc_wire.specs.Reader.{waiting, IfTold, TakesFront, TakesLine, LosesExcess, KeepsLines, BeginsLong, Fetches}
 use Rattle.pc_wire.specs.Reading.{state_of, Fills, TakesOpen, Seeks, IsHeld}
 use Rattle.pc_wire.specs.declared.fetched.Fetched.TheVariants.{Waits, End, Overlong}
 use Rattle.pc_wire.specs.declared.fetched.Held.TheVariants.{Begun, Last}
@@ -392,3 +392,25 @@ TakesLine-leads line before after ahead left taken e = elim taken.spells [
 pub TakesLine-first : (line before after : List ℕ) → TakesLine line before after → lines_of before ≡ line ∷ lines_of after
 TakesLine-first line before after taken =
     ap lines_of taken.split ∙ TakesLine-leads line before after after [] taken (sym (append-nil after))
+
+-- nothing more was read
+pub TakesFront-none : (left : Option (List ℕ)) → TakesFront left left
+TakesFront-none None = tt
+TakesFront-none (Some bytes) = ([], refl)
+
+pub TakesFront-more : (before middle after : Option (List ℕ)) → TakesFront before middle → TakesFront middle after → TakesFront before after
+TakesFront-more None middle after first second = tt
+TakesFront-more (Some bytes) None after first second = absurd first
+TakesFront-more (Some bytes) (Some rest) None first second = absurd second
+TakesFront-more (Some bytes) (Some rest) (Some left) first second =
+    (first.0 ++ second.0, first.1 ∙ ap (λ (xs : List ℕ). first.0 ++ xs) second.1 ∙ sym (append_assoc first.0 second.0 left))
+
+pub TakesFront-read : (before after : Option (List ℕ)) (count : ℕ) (into : List ℕ) → Consumes before after (take count into) → TakesFront before after
+TakesFront-read None after count into read = tt
+TakesFront-read (Some bytes) None count into read = absurd read
+TakesFront-read (Some bytes) (Some rest) count into read = (take count into, read)
+
+pub TakesFront-kept : (before after : Option (List ℕ)) → Keeps before after → TakesFront before after
+TakesFront-kept None after kept = tt
+TakesFront-kept (Some bytes) None kept = absurd kept
+TakesFront-kept (Some bytes) (Some rest) kept = ([], sym kept)

@@ -36,6 +36,10 @@ IfTold None after P = ⊤
 IfTold (Some old) None P = ⊥
 IfTold (Some old) (Some new) P = P old new
 
+-- what is left is a rest of what there was, where it is told
+abbrev pub TakesFront : Option (List ℕ) → Option (List ℕ) → Type 0
+TakesFront before after = IfTold before after (λ bytes rest. (read : List ℕ) × (bytes ≡ read ++ rest))
+
 -- the bytes are the input's last line, which no LF ends; a CR at its end belongs to it
 abbrev pub IsLastLine : List ℕ → List ℕ → List ℕ → Type 0
 IsLastLine spelling line after = (spelling ≡ line) × (after ≡ []) × (has_feed line ≡ false) × (0 < length line)

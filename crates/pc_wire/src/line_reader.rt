@@ -5,7 +5,7 @@ ghost use Rattle.std.specs.Io.KnownBytes.{prepend_known};
 ghost use Rattle.pc_base.specs.Stream.{HasCause};
 ghost use Rattle.pc_wire.specs.LineFeed.{Feeds};
 ghost use Rattle.pc_wire.specs.Next.{ShowsLine};
-ghost use Rattle.pc_wire.specs.Reader.{no_line, waiting, Fetches, ShowsWaiting};
+ghost use Rattle.pc_wire.specs.Reader.{TakesFront, no_line, waiting, Fetches, ShowsWaiting};
 ghost use Rattle.pc_wire.specs.Reading.{state_of, IsHeld, Seeks};
 
 use crate::fetched::{Fetched, Held};
@@ -55,6 +55,7 @@ impl LineReader {
         requires { self.old.waits ≡ no_line }
         ensures limit { self.new.limit ≡ self.old.limit }
         ensures lines { Fetches self.old self.new (S.left source.old) (S.left source.new) result }
+        ensures front { TakesFront (S.left source.old) (S.left source.new) }
         ensures cause { HasCause (S.faults source.old) (S.faults source.new) result }
     {
         let (held, fetched) = seek_line(&mut self.buffer, &mut self.feed, source);
@@ -101,6 +102,7 @@ fn seek_line<S: Source>(
     ensures lines { Fetches
         (state_of Held.Begun feed.old buffer.old) (state_of result.0 feed.new buffer.new)
         (S.left source.old) (S.left source.new) result.1 }
+    ensures front { TakesFront (S.left source.old) (S.left source.new) }
     ensures cause { HasCause (S.faults source.old) (S.faults source.new) result.1 }
 {
     let Ok(fetched) = seek_feed(buffer, feed, source) else {
@@ -127,6 +129,7 @@ fn seek_feed<S: Source>(
         (prepend_known buffer.old (S.left source.old))
         (prepend_known buffer.new (S.left source.new)) result }
     ensures drained { result ≡ Ok Fetched.End → buffer.new ≡ [] }
+    ensures front { TakesFront (S.left source.old) (S.left source.new) }
     ensures cause { HasCause (S.faults source.old) (S.faults source.new) result }
 {
     while buffer.fill(source)? {

@@ -9,7 +9,7 @@ use Rattle.pc_base.specs.declared.failure.Failed.{Failed}
 use Rattle.pc_base.specs.Stream.{AppendsFront, Rose}
 use Rattle.pc_wire.specs.Lines.{lines_of}
 use Rattle.pc_wire.specs.Reader.{ReaderState, IfTold, TakesLine, TakesFront, BeginsLong, LosesExcess, no_line, unread}
-use Rattle.pc_wire.proofs.ReaderLemmas.{TakesLine-leads, TakesLine-first}
+use Rattle.pc_wire.proofs.ReaderLemmas.{TakesFront-none, TakesLine-leads, TakesLine-first}
 use Rattle.pc_world.proofs.Stopped.{stops_bad, long_none}
 use Rattle.pc_world.specs.Account.{Account}
 use Rattle.pc_world.specs.Runs.{Plays, Chain, Begins, GoesOn, IsRun, IsOfForm, IsRefused, lines_in, text_of, ended, most_lines}
@@ -158,11 +158,6 @@ IsPlayed-passed script unread before after after' world pending pending' count (
     subst Q (sym sent.0) (IsPlayed-sent script unread before after after' world pending count played sent.1)
 IsPlayed-passed script unread before after after' world pending pending' count (Err failed) played fine sends = absurd (false≢true fine)
 
--- nothing more was read
-pub TakesFront-none : (left : Option (List ℕ)) → TakesFront left left
-TakesFront-none None = tt
-TakesFront-none (Some bytes) = ([], refl)
-
 moved : (front ahead read rest : List ℕ) → front ++ (ahead ++ (read ++ rest)) ≡ (front ++ (ahead ++ read)) ++ rest
 moved front ahead read rest = ap (λ (xs : List ℕ). front ++ xs) (sym (append_assoc ahead read rest)) ∙ sym (append_assoc front (ahead ++ read) rest)
 
@@ -214,10 +209,6 @@ Ends-none script before = whole_front script [] script script before before befo
 pub Finishes-text : (before after : Option (List ℕ)) (faults faults' : ℕ) (shown pending : List ℕ) (end result : ReplayEnd) → shown ≡ pending → Finishes before after faults faults' shown end result → Finishes before after faults faults' pending end result
 Finishes-text before after faults faults' shown pending end result same finished =
     subst (λ (text : List ℕ). Finishes before after faults faults' text end result) same finished
-
--- nothing was read, played or written
-pub Ends-none : (script left before : Option (List ℕ)) → Ends script left before before Memory
-Ends-none script left before = whole_front script (prepend_known [] script) before before before [] [] 0 (IsPlayed-none script before) (Appends-nil before)
 
 -- however the writing went, what it was to end with holds where it did, and a front was written where it failed
 ends_by : (script : Option (List ℕ)) (ahead : List ℕ) (left left' before after after' : Option (List ℕ)) (world : List Account) (pending : List ℕ) (count faults faults' : ℕ) (end result : ReplayEnd)

@@ -3,11 +3,11 @@ use Rattle.std.specs.Io.KnownBytes.{prepend_known}
 use Rattle.std.proofs.lemmas.Bool.{false≢true}
 use Rattle.pc_wire.specs.Reading.{Seeks}
 use Rattle.pc_wire.specs.declared.fetched.Fetched.TheVariants.{Waits}
-use Rattle.pc_wire.proofs.ReaderLemmas.{Fills-true, TakesOpen-none, TakesOpen-kept, TakesOpen-turn, TakesOpen-room, Seeks-line}
+use Rattle.pc_wire.proofs.ReaderLemmas.{Fills-true, TakesOpen-none, TakesOpen-kept, TakesOpen-turn, TakesOpen-room, Seeks-line, TakesFront-none, TakesFront-more}
 use Rattle.pc_wire.proofs.line_reader.seek_feed.Goals as goal
 
 pub loop-buffer-init : goal.loop-buffer-init
-loop-buffer-init g c = (TakesOpen-none c.args.feed.now _ c.requires, omega arith)
+loop-buffer-init g c = (TakesOpen-none c.args.feed.now _ c.requires, omega arith, TakesFront-none _)
 
 pub returns-then-feed_ahead-clause-bytes : goal.returns-then-feed_ahead-clause-bytes
 returns-then-feed_ahead-clause-bytes g c =
@@ -34,4 +34,13 @@ pub loop-buffer-preserved : goal.loop-buffer-preserved
 loop-buffer-preserved g c =
     let filled = Fills-true _ _ _ c.in_ok-fill.field-0 c.in_ok-fill.ensures.bytes c.if-branch.true in
     let more = sym c.feed_ahead.ensures.whole ∙ c.if-feed_ahead.false in
-    (TakesOpen-turn _ _ _ _ _ _ _ _ _ c.loop-buffer.invariant.0 filled.0 c.feed_ahead.ensures.bytes more, omega (arith, c.loop-buffer.invariant.1, c.fill.ensures.cause.later))
+    (TakesOpen-turn _ _ _ _ _ _ _ _ _ c.loop-buffer.invariant.0 filled.0 c.feed_ahead.ensures.bytes more, omega (arith, c.loop-buffer.invariant.1, c.fill.ensures.cause.later), TakesFront-more _ _ _ c.loop-buffer.invariant.2 c.fill.ensures.front)
+
+pub returns-then-feed_ahead-clause-front : goal.returns-then-feed_ahead-clause-front
+returns-then-feed_ahead-clause-front g c = TakesFront-more _ _ _ c.loop-buffer.invariant.2 c.fill.ensures.front
+
+pub returns-then-over-clause-front : goal.returns-then-over-clause-front
+returns-then-over-clause-front g c = TakesFront-more _ _ _ c.loop-buffer.invariant.2 c.fill.ensures.front
+
+pub returns-in_err-fill-clause-front : goal.returns-in_err-fill-clause-front
+returns-in_err-fill-clause-front g c = TakesFront-more _ _ _ c.loop-buffer.invariant.2 c.fill.ensures.front
