@@ -1,0 +1,5 @@
+pub mod PlaceLemmas
+pub mod LineLemmas
+pub mod FeedLemmas
+pub mod WordLemmas
+mod Samples
