@@ -1,13 +1,17 @@
 //! Lines, words, and lines that come in pieces.
 #![tactic(auto)]
 
+mod body_feed;
 pub mod laws;
 mod line_feed;
 mod places;
 mod words;
+mod writing;
 
+pub use body_feed::{BodyFeed, BodyStep};
 pub use line_feed::{LineFeed, Next};
 pub use words::{next_word, without_spaces};
+pub use writing::{write_body, write_line};
 
 #[cfg(test)]
 mod tests;
