@@ -2,4 +2,7 @@ pub mod PlaceLemmas
 pub mod LineLemmas
 pub mod FeedLemmas
 pub mod WordLemmas
+pub mod BodyLemmas
+pub mod BodyFeedLemmas
+pub mod WritingLemmas
 mod Samples

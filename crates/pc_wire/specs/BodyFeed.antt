@@ -1,5 +1,5 @@
 -- What a body feed holds, and how lines change it.
-use Rattle.std.specs.Prelude.{◌≡◌, ℕ, ◌≤◌, Bool, true, false, ◌==◌, ◌&&◌, ◌||◌, nat_le, List, [], ◌∷◌, ◌++◌, ◌⊎◌, length, map, Option, Some, None, is_none, Result, Ok, Err, IsTrue, MatchBool, Contains, if◌then◌else◌}
+use Rattle.std.specs.Prelude.{◌≡◌, ℕ, ◌≤◌, Bool, true, false, ◌==◌, ◌&&◌, ◌||◌, nat_le, List, [], ◌∷◌, ◌++◌, ◌⊎◌, length, map, Option, Some, None, is_none, Result, Ok, Err, IsTrue, MatchBool, if◌then◌else◌}
 use Rattle.std.specs.List.{AllZip, list_any}
 use Rattle.pc_base.specs.Line.{is_line}
 use Rattle.pc_base.specs.declared.failure.Memory.{Memory}
@@ -19,6 +19,10 @@ sent_of (Line bytes) = if is_line bytes.now then Some bytes.now else None
 sent_of NoLine = None
 sent_of TooLong = None
 
+-- a line that came, by a limit on its bytes
+abbrev pub sent_within : ℕ → List ℕ → Sent
+sent_within limit line = if nat_le (length line) limit then Some line else None
+
 -- a single dot
 abbrev pub is_dot : List ℕ → Bool
 is_dot [] = false
@@ -34,6 +38,10 @@ is_end (Some line) = is_dot line
 abbrev pub content_of : List ℕ → List ℕ
 content_of [] = []
 content_of (byte ∷ bytes) = if byte == 46 then bytes else byte ∷ bytes
+
+-- some line was past its limit
+abbrev pub has_long : List Sent → Bool
+has_long came = list_any is_none came
 
 -- what the lines carry that weren't past their limit
 abbrev pub contents : List Sent → List (List ℕ)
@@ -53,7 +61,7 @@ whole_within most_bytes most_lines lines =
 -- what a dot is answered after these lines
 abbrev pub answer_after : ℕ → ℕ → List Sent → BodyStep
 answer_after most_bytes most_lines came =
-    if list_any is_none came then LineTooLong else whole_within most_bytes most_lines (contents came)
+    if has_long came then LineTooLong else whole_within most_bytes most_lines (contents came)
 
 -- the size is that of the lines that are kept, if any are
 abbrev pub IsSized : Result BodyStep Memory → ℕ → Type 0
@@ -70,7 +78,7 @@ CameAs came lines = (sent : List (List ℕ)) × ((came ≡ map Some sent) × All
 -- the answer to a dot, by what the lines before it carry
 abbrev pub IsAnswer : ℕ → ℕ → List Sent → BodyStep → Type 0
 IsAnswer most_bytes most_lines came (Whole lines) = CameAs came lines × IsTrue (is_within most_bytes most_lines lines)
-IsAnswer most_bytes most_lines came LineTooLong = Contains came None
+IsAnswer most_bytes most_lines came LineTooLong = IsTrue (has_long came)
 IsAnswer most_bytes most_lines came TooLarge = (lines : List (List ℕ)) × (CameAs came lines × (is_within most_bytes most_lines lines ≡ false))
 IsAnswer most_bytes most_lines came More = ⊥
 
@@ -85,6 +93,10 @@ pub record BodyState : Type 0 where
 abbrev pub after : ℕ → ℕ → List Sent → BodyState
 after most_bytes most_lines came =
     record { most_bytes = most_bytes; most_lines = most_lines; so_far = Ok (answer_after most_bytes most_lines came) }
+
+-- what a feed holds after want of memory, up to the dot
+abbrev pub wanting : ℕ → ℕ → BodyState
+wanting most_bytes most_lines = record { most_bytes = most_bytes; most_lines = most_lines; so_far = Err (record {}) }
 
 -- what a dot would be answered after one more line, by what it would be answered before; want of memory stays
 abbrev pub with_line : ℕ → ℕ → Result BodyStep Memory → Sent → Result BodyStep Memory

@@ -1,6 +1,6 @@
 //! Bodies that come line by line.
 
-ghost use Rattle.std.specs.Prelude.{◌≡◌, ◌≢◌, [], ◌∷◌, ◌++◌, IsTrue, OnOk, OnErr};
+ghost use Rattle.std.specs.Prelude.{◌≡◌, ◌≢◌, [], ◌∷◌, ◌++◌, ◌&&◌, nat_le, IfOk, IsTrue};
 ghost use Rattle.std.specs.Option.{option_copied};
 ghost use Rattle.pc_base.specs.Line.{is_line as fits};
 ghost use Rattle.pc_wire.specs.BodyFeed.{after, sent_of, content_of, is_dot as is_single, joined, Joins, Ends, TakesLine};
@@ -103,23 +103,21 @@ impl BodyFeed {
         requires { IsTrue (fits line.now) }
         ensures { Joins self.old (Some line.now) self.new result }
     {
-        let Ok(BodyStep::Whole(lines)) = &mut self.so_far else {
-            return Ok(BodyStep::More);
+        let lines = match mem::replace(&mut self.so_far, Err(Memory)) {
+            Ok(BodyStep::Whole(lines)) => lines,
+            other => {
+                self.so_far = other;
+                return Ok(BodyStep::More);
+            }
         };
         let line = content(line);
         let size = u64::from(self.size) + line.len() as u64 + 2;
-        if size > u64::from(self.most_bytes) {
+        let count = lines.as_slice().len() as u64 + 1;
+        if !is_within(self.most_bytes, self.most_lines, size, count) {
             self.so_far = Ok(BodyStep::TooLarge);
             return Ok(BodyStep::More);
         }
-        if lines.as_slice().len() >= self.most_lines as usize {
-            self.so_far = Ok(BodyStep::TooLarge);
-            return Ok(BodyStep::More);
-        }
-        if keep(self.alloc, lines, line).is_err() {
-            self.so_far = Err(Memory);
-            return Err(Memory);
-        }
+        self.so_far = Ok(BodyStep::Whole(keep(self.alloc, lines, line)?));
         self.size = size as u32;
         Ok(BodyStep::More)
     }
@@ -159,14 +157,21 @@ fn content(line: &[u8]) -> &[u8]
     }
 }
 
-/// Puts a copy of the line behind the others. After `Err` they are as before.
-fn keep(alloc: Global, lines: &mut Lines, line: &[u8]) -> Result<(), Memory>
+/// Whether lines of this size and count pass neither number.
+fn is_within(most_bytes: u32, most_lines: u32, size: u64, count: u64) -> bool
+    ensures { result ≡ (nat_le size most_bytes && nat_le count most_lines) }
+{
+    size <= u64::from(most_bytes) && count <= u64::from(most_lines)
+}
+
+/// The lines with a copy of one more.
+fn keep(alloc: Global, mut lines: Lines, line: &[u8]) -> Result<Lines, Memory>
     requires { IsTrue (fits line.now) }
-    ensures ok { OnOk result (lines.new ≡ lines.old ++ line.now ∷ []) }
-    ensures err { OnErr result (lines.new ≡ lines.old) }
+    ensures { IfOk result (λ kept. kept ≡ lines ++ line.now ∷ []) }
 {
     let Ok(line) = Line::copy_of(alloc, line) else {
         return Err(Memory);
     };
-    lines.push(line)
+    lines.push(line)?;
+    Ok(lines)
 }

@@ -1,8 +1,9 @@
 //! Lines and bodies as they are written.
 
-ghost use Rattle.std.specs.Prelude.{OnOk};
+ghost use Rattle.std.specs.Prelude.{◌≡◌, ◌++◌, false, OnOk};
 ghost use Rattle.pc_base.specs.Stream.{HasCause, WritesAll};
-ghost use Rattle.pc_wire.specs.Body.{IsBody, written_line, written_content, written_body};
+ghost use Rattle.pc_wire.specs.Lines.{has_feed};
+ghost use Rattle.pc_wire.specs.Body.{IsBody, sent_as, written_line, written_content, written_body};
 
 use pc_base::{Failed, Line, Lines, Sink, write_all};
 
@@ -32,10 +33,19 @@ pub fn write_body<K: Sink>(sink: &mut K, lines: &Lines) -> Result<(), Failed>
 fn write_content<K: Sink>(sink: &mut K, line: &Line) -> Result<(), Failed>
     ensures content { WritesAll (K.written sink.old) (K.written sink.new) result (written_content line.now) }
     ensures cause { HasCause (K.faults sink.old) (K.faults sink.new) result }
+    ensures without_feed { has_feed line.now ≡ false }
 {
     let bytes = line.bytes();
-    if matches!(bytes, [b'.', ..]) {
-        write_all(sink, b".")?;
-    }
+    write_all(sink, added_dot(bytes))?;
     write_line(sink, bytes)
+}
+
+/// What is sent in front of a line.
+fn added_dot(line: &[u8]) -> &'static [u8]
+    ensures { result.now ++ line.now ≡ sent_as line.now }
+{
+    match line {
+        [b'.', ..] => b".".as_slice(),
+        _ => b"".as_slice(),
+    }
 }
