@@ -2,6 +2,7 @@
 #![tactic(auto)]
 
 mod body_feed;
+pub mod body_laws;
 pub mod laws;
 mod line_feed;
 mod places;
