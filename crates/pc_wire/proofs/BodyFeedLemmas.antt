@@ -1,19 +1,19 @@
 -- Body feeds: what they hold after the lines that came, and what a dot is answered.
 use Rattle.std.proofs.Common.{◌≡◌, ℕ, ◌+◌, ◌≤◌, ◌↔◌, Bool, true, false, cond, leb, ◌||◌, ◌&&◌, ◌⊎◌, inl, inr, List, [], ◌∷◌, ◌++◌, Option, Some, None, Result, Ok, Err, length, map, sym, refl, ap, subst, ◌∙◌, arith, append_assoc, length-append}
 use Rattle.std.specs.Prelude.{is_none}
-use Rattle.std.specs.List.{AllZip, list_any, list_all}
+use Rattle.std.specs.List.{AllZip, list_any}
 use Rattle.std.proofs.Math.Bool.{or-true}
-use Rattle.std.proofs.lemmas.Bool.{or_parts, and_parts, false≢true, MatchBool-at_false}
+use Rattle.std.proofs.lemmas.Bool.{or_parts, or_from, and_parts, false≢true, MatchBool-at_false}
 use Rattle.std.proofs.lemmas.Bool.Decides.{nat_tests}
 use Rattle.std.proofs.lemmas.List.{append-nil}
 use Rattle.std.proofs.lemmas.List.Folds.{list_any-append}
 use Rattle.pc_base.specs.declared.failure.Memory.{Memory}
-use Rattle.pc_wire.specs.Lines.{lines_of}
-use Rattle.pc_wire.specs.Body.{dot, Carries, IsBody, size_of}
-use Rattle.pc_wire.specs.BodyFeed.{Sent, sent_within, is_dot, is_end, content_of, contents, has_long, is_within, whole_within, answer_after, IsSized, CameAs, IsAnswer, BodyState, after, wanting, with_line, joined, Joins, Ends, TakesLine, TakesAll}
+use Rattle.pc_wire.specs.Lines.{has_feed, lines_of, AreSpellings}
+use Rattle.pc_wire.specs.Body.{dot, Carries, IsBody, sent_as, written_body, size_of}
+use Rattle.pc_wire.specs.BodyFeed.{Sent, sent_within, all_fit, is_dot, is_end, content_of, contents, has_long, is_within, whole_within, answer_after, IsSized, CameAs, IsAnswer, BodyState, after, wanting, with_line, joined, Joins, Ends, TakesLine, TakesAll}
 use Rattle.pc_wire.specs.declared.body_feed.BodyStep.{BodyStep}
 use Rattle.pc_wire.specs.declared.body_feed.BodyStep.TheVariants.{More, Whole, LineTooLong, TooLarge}
-use Rattle.pc_wire.proofs.BodyLemmas.{AllZip-contents, content-Carries, lines_of-body}
+use Rattle.pc_wire.proofs.BodyLemmas.{AllZip-contents, content-Carries, lines_of-body, sent_as-AllZip, written-spelled}
 
 pub size_of-push : (lines : List (List ℕ)) (line : List ℕ) → size_of (lines ++ line ∷ []) ≡ size_of lines + length line + 2
 size_of-push [] line = omega arith
@@ -166,29 +166,70 @@ lines_join most_bytes most_lines came (sent ∷ more) new (middle, (result, take
 
 -- ---- a body that is read
 
-all_come : (limit : ℕ) (sent : List (List ℕ)) → list_all (λ line. leb (length line) limit) sent ≡ true → map (sent_within limit) sent ≡ map Some sent
+all_come : (limit : ℕ) (sent : List (List ℕ)) → all_fit limit sent ≡ true → map (sent_within limit) sent ≡ map Some sent
 all_come limit [] all = refl
 all_come limit (s ∷ ss) all =
-    let p = and_parts (leb (length s) limit) (list_all (λ line. leb (length line) limit) ss) all in
+    let p = and_parts (leb (length s) limit) (all_fit limit ss) all in
     rw (p.0, all_come limit ss p.1) refl
 
-some_is_long : (limit : ℕ) (sent : List (List ℕ)) → list_all (λ line. leb (length line) limit) sent ≡ false → has_long (map (sent_within limit) sent) ≡ true
+some_is_long : (limit : ℕ) (sent : List (List ℕ)) → all_fit limit sent ≡ false → has_long (map (sent_within limit) sent) ≡ true
 some_is_long limit [] all = absurd (false≢true (sym all))
 some_is_long limit (s ∷ ss) all = by_test (leb (length s) limit) all (some_is_long limit ss)
   where
-    by_test : (t : Bool) → (t && list_all (λ line. leb (length line) limit) ss) ≡ false → (list_all (λ line. leb (length line) limit) ss ≡ false → has_long (map (sent_within limit) ss) ≡ true) → has_long (cond t (Some s) None ∷ map (sent_within limit) ss) ≡ true
+    by_test : (t : Bool) → (t && all_fit limit ss) ≡ false → (all_fit limit ss ≡ false → has_long (map (sent_within limit) ss) ≡ true) → has_long (cond t (Some s) None ∷ map (sent_within limit) ss) ≡ true
     by_test true all rest = rest all
     by_test false all rest = refl
 
 -- sent lines are answered with what they carry, unless it passes a number or one is past its limit
-answer_after-carried : (most_bytes most_lines limit : ℕ) (sent lines : List (List ℕ)) → AllZip Carries sent lines → answer_after most_bytes most_lines (map (sent_within limit) sent) ≡ cond (list_all (λ line. leb (length line) limit) sent) (whole_within most_bytes most_lines lines) LineTooLong
+answer_after-carried : (most_bytes most_lines limit : ℕ) (sent lines : List (List ℕ)) → AllZip Carries sent lines → answer_after most_bytes most_lines (map (sent_within limit) sent) ≡ cond (all_fit limit sent) (whole_within most_bytes most_lines lines) LineTooLong
 answer_after-carried most_bytes most_lines limit sent lines carry =
-    by_test (list_all (λ line. leb (length line) limit) sent) refl
+    by_test (all_fit limit sent) refl
   where
-    by_test : (t : Bool) → list_all (λ line. leb (length line) limit) sent ≡ t → answer_after most_bytes most_lines (map (sent_within limit) sent) ≡ cond t (whole_within most_bytes most_lines lines) LineTooLong
+    by_test : (t : Bool) → all_fit limit sent ≡ t → answer_after most_bytes most_lines (map (sent_within limit) sent) ≡ cond t (whole_within most_bytes most_lines lines) LineTooLong
     by_test true all = rw (all_come limit sent all, long-map_Some sent, contents-map_Some sent, ← (AllZip-contents sent lines carry).1) refl
     by_test false all = rw (some_is_long limit sent all) refl
 
-pub body_is_read : (most_bytes most_lines limit : ℕ) (lines : List (List ℕ)) (bytes rest : List ℕ) → IsBody lines bytes → (sent : List (List ℕ)) × ((lines_of (bytes ++ rest) ≡ sent ++ dot ∷ lines_of rest) × AllZip Carries sent lines × (list_any is_dot sent ≡ false) × (answer_after most_bytes most_lines (map (sent_within limit) sent) ≡ cond (list_all (λ line. leb (length line) limit) sent) (whole_within most_bytes most_lines lines) LineTooLong))
+pub body_is_read : (most_bytes most_lines limit : ℕ) (lines : List (List ℕ)) (bytes rest : List ℕ) → IsBody lines bytes → (sent : List (List ℕ)) × ((lines_of (bytes ++ rest) ≡ sent ++ dot ∷ lines_of rest) × AllZip Carries sent lines × (list_any is_dot sent ≡ false) × (answer_after most_bytes most_lines (map (sent_within limit) sent) ≡ cond (all_fit limit sent) (whole_within most_bytes most_lines lines) LineTooLong))
 body_is_read most_bytes most_lines limit lines bytes rest (sent, (carry, spelled)) =
     (sent, (lines_of-body sent bytes rest spelled, carry, (AllZip-contents sent lines carry).0, answer_after-carried most_bytes most_lines limit sent lines carry))
+
+-- a line that comes is the one that was sent
+sent_within-is : (limit : ℕ) (line other : List ℕ) → sent_within limit line ≡ Some other → line ≡ other
+sent_within-is limit line other is = by_test (leb (length line) limit) is
+  where
+    by_test : (t : Bool) → cond t (Some line) None ≡ Some other → line ≡ other
+    by_test true is = cc
+    by_test false is = cc
+
+sent_within-are : (limit : ℕ) (sent others : List (List ℕ)) → map (sent_within limit) sent ≡ map Some others → sent ≡ others
+sent_within-are limit [] [] are = refl
+sent_within-are limit [] (o ∷ os) are = cc
+sent_within-are limit (s ∷ ss) [] are = cc
+sent_within-are limit (s ∷ ss) (o ∷ os) are =
+    let first : sent_within limit s ≡ Some o = cc in
+    let more : map (sent_within limit) ss ≡ map Some os = cc in
+    rw (sent_within-is limit s o first, sent_within-are limit ss os more) refl
+
+-- a line that comes ends a body only if it's the dot
+end_within : (limit : ℕ) (line : List ℕ) → is_dot line ≡ false → is_end (sent_within limit line) ≡ false
+end_within limit line other = by_test (leb (length line) limit)
+  where
+    by_test : (t : Bool) → is_end (cond t (Some line) None) ≡ false
+    by_test true = other
+    by_test false = refl
+
+no_end : (limit : ℕ) (sent : List (List ℕ)) → list_any is_dot sent ≡ false → list_any is_end (map (sent_within limit) sent) ≡ false
+no_end limit [] dots = refl
+no_end limit (s ∷ ss) dots =
+    let p = or_parts (is_dot s) (list_any is_dot ss) dots in
+    or_from (is_end (sent_within limit s)) (list_any is_end (map (sent_within limit) ss)) (end_within limit s p.0) (no_end limit ss p.1)
+
+pub only_bodies : (most_bytes most_lines limit : ℕ) (lines : List (List ℕ)) (bytes : List ℕ) (sent : List (List ℕ)) → list_any is_dot sent ≡ false → AreSpellings bytes (sent ++ dot ∷ []) → answer_after most_bytes most_lines (map (sent_within limit) sent) ≡ Whole lines → IsBody lines bytes
+only_bodies most_bytes most_lines limit lines bytes sent dots spelled answer =
+    let exact = (answer_is_exact most_bytes most_lines (map (sent_within limit) sent) (Whole lines) (no_end limit sent dots)).0 (sym answer) in
+    let (others, (came, carry)) = exact.0 in
+    (sent, (subst (λ (all : List (List ℕ)). AllZip Carries all lines) (sym (sent_within-are limit sent others came)) carry, spelled))
+
+pub written_is_read : (most_bytes most_lines limit : ℕ) (lines : List (List ℕ)) (rest : List ℕ) → list_any has_feed lines ≡ false → (lines_of (written_body lines ++ rest) ≡ map sent_as lines ++ dot ∷ lines_of rest) × (answer_after most_bytes most_lines (map (sent_within limit) (map sent_as lines)) ≡ cond (all_fit limit (map sent_as lines)) (whole_within most_bytes most_lines lines) LineTooLong)
+written_is_read most_bytes most_lines limit lines rest h =
+    (lines_of-body (map sent_as lines) (written_body lines) rest (written-spelled lines h), answer_after-carried most_bytes most_lines limit (map sent_as lines) lines (sent_as-AllZip lines))

@@ -71,11 +71,11 @@ open-sent_as line h = by_test (is_dotted line)
     by_test true = h
     by_test false = h
 
-sent_as-AllZip : (lines : List (List ℕ)) → AllZip Carries (map sent_as lines) lines
+pub sent_as-AllZip : (lines : List (List ℕ)) → AllZip Carries (map sent_as lines) lines
 sent_as-AllZip [] = tt
 sent_as-AllZip (l ∷ ls) = (sent_as-Carries l, sent_as-AllZip ls)
 
-written-spelled : (lines : List (List ℕ)) → list_any has_feed lines ≡ false → AreSpellings (written_body lines) (map sent_as lines ++ dot ∷ [])
+pub written-spelled : (lines : List (List ℕ)) → list_any has_feed lines ≡ false → AreSpellings (written_body lines) (map sent_as lines ++ dot ∷ [])
 written-spelled [] h = (written_line dot, ([], (refl, (refl, inl refl), refl)))
 written-spelled (l ∷ ls) h =
     let p = or_parts (has_feed l) (list_any has_feed ls) h in

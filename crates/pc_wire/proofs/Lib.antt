@@ -5,4 +5,5 @@ pub mod WordLemmas
 pub mod BodyLemmas
 pub mod BodyFeedLemmas
 pub mod WritingLemmas
+mod BodySamples
 mod Samples

@@ -1,6 +1,6 @@
 -- What a body feed holds, and how lines change it.
 use Rattle.std.specs.Prelude.{◌≡◌, ℕ, ◌≤◌, Bool, true, false, ◌==◌, ◌&&◌, ◌||◌, nat_le, List, [], ◌∷◌, ◌++◌, ◌⊎◌, length, map, Option, Some, None, is_none, Result, Ok, Err, IsTrue, MatchBool, if◌then◌else◌}
-use Rattle.std.specs.List.{AllZip, list_any}
+use Rattle.std.specs.List.{AllZip, list_any, list_all}
 use Rattle.pc_base.specs.Line.{is_line}
 use Rattle.pc_base.specs.declared.failure.Memory.{Memory}
 use Rattle.pc_wire.specs.Body.{Carries, size_of}
@@ -22,6 +22,10 @@ sent_of TooLong = None
 -- a line that came, by a limit on its bytes
 abbrev pub sent_within : ℕ → List ℕ → Sent
 sent_within limit line = if nat_le (length line) limit then Some line else None
+
+-- no sent line is past the limit
+abbrev pub all_fit : ℕ → List (List ℕ) → Bool
+all_fit limit sent = list_all (λ line. nat_le (length line) limit) sent
 
 -- a single dot
 abbrev pub is_dot : List ℕ → Bool

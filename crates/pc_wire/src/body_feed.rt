@@ -175,3 +175,6 @@ fn keep(alloc: Global, mut lines: Lines, line: &[u8]) -> Result<Lines, Memory>
     lines.push(line)?;
     Ok(lines)
 }
+
+#[cfg(test)]
+mod tests;

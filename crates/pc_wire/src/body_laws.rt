@@ -1,15 +1,15 @@
 //! Laws of bodies and body feeds. The functions do nothing: each contract is a law.
 
-ghost use Rattle.std.specs.Prelude.{◌≡◌, ◌≤◌, ℕ, ◌↔◌, false, List, [], ◌∷◌, ◌++◌, ◌⊎◌, Some, Ok, Err, Result, length, map, nat_le, if◌then◌else◌};
-ghost use Rattle.std.specs.List.{AllZip, list_any, list_all};
+ghost use Rattle.std.specs.Prelude.{◌≡◌, ◌≤◌, ℕ, ◌↔◌, false, List, [], ◌∷◌, ◌++◌, ◌⊎◌, Some, Ok, Err, Result, map, if◌then◌else◌};
+ghost use Rattle.std.specs.List.{AllZip, list_any};
 ghost use Rattle.pc_base.specs.declared.failure.Memory.{Memory};
-ghost use Rattle.pc_wire.specs.Lines.{has_feed, lines_of};
+ghost use Rattle.pc_wire.specs.Lines.{has_feed, lines_of, AreSpellings};
 ghost use Rattle.pc_wire.specs.Next.{ShowsLine};
-ghost use Rattle.pc_wire.specs.Body.{dot, Carries, IsBody, written_body};
-ghost use Rattle.pc_wire.specs.BodyFeed.{Sent, sent_of, sent_within, is_dot, is_end, content_of, whole_within, answer_after, IsAnswer, BodyState, after, wanting, TakesLine, TakesAll};
+ghost use Rattle.pc_wire.specs.Body.{dot, Carries, IsBody, sent_as, written_body};
+ghost use Rattle.pc_wire.specs.BodyFeed.{Sent, sent_of, sent_within, all_fit, is_dot, is_end, content_of, whole_within, answer_after, IsAnswer, BodyState, after, wanting, TakesLine, TakesAll};
 ghost use Rattle.pc_wire.specs.declared.line_feed.Next.{Next};
 ghost use Rattle.pc_wire.specs.declared.body_feed.BodyStep.{BodyStep};
-ghost use Rattle.pc_wire.specs.declared.body_feed.BodyStep.TheVariants.{More, LineTooLong};
+ghost use Rattle.pc_wire.specs.declared.body_feed.BodyStep.TheVariants.{More, Whole, LineTooLong};
 
 /// Each sent line but the single dot carries one line of content; the dot carries none.
 pub fn one_line_is_carried()
@@ -57,13 +57,25 @@ pub fn lines_join()
 {}
 
 /// A text that begins with a body has its sent lines and the dot first. After these lines the dot is
-/// answered with the body's lines, unless they pass a number or a sent line is past its limit.
+/// answered with the body's lines, unless they pass a number or a sent line is past its limit. Only
+/// bodies are answered so.
 pub fn body_is_read()
-    ensures { (most_bytes most_lines limit : ℕ) (lines : List (List ℕ)) (bytes rest : List ℕ) → IsBody lines bytes →
+    ensures all { (most_bytes most_lines limit : ℕ) (lines : List (List ℕ)) (bytes rest : List ℕ) → IsBody lines bytes →
         (sent : List (List ℕ)) × (
             (lines_of (bytes ++ rest) ≡ sent ++ dot ∷ lines_of rest)
             × AllZip Carries sent lines
             × (list_any is_dot sent ≡ false)
             × (answer_after most_bytes most_lines (map (sent_within limit) sent)
-                ≡ (if list_all (λ line. nat_le (length line) limit) sent then whole_within most_bytes most_lines lines else LineTooLong))) }
+                ≡ (if all_fit limit sent then whole_within most_bytes most_lines lines else LineTooLong))) }
+    ensures only { (most_bytes most_lines limit : ℕ) (lines : List (List ℕ)) (bytes : List ℕ) (sent : List (List ℕ)) →
+        list_any is_dot sent ≡ false → AreSpellings bytes (sent ++ dot ∷ []) →
+        answer_after most_bytes most_lines (map (sent_within limit) sent) ≡ Whole lines → IsBody lines bytes }
+{}
+
+/// What is written of lines without LF is read again as them, whatever follows.
+pub fn written_is_read()
+    ensures { (most_bytes most_lines limit : ℕ) (lines : List (List ℕ)) (rest : List ℕ) → list_any has_feed lines ≡ false →
+        (lines_of (written_body lines ++ rest) ≡ map sent_as lines ++ dot ∷ lines_of rest)
+        × (answer_after most_bytes most_lines (map (sent_within limit) (map sent_as lines))
+            ≡ (if all_fit limit (map sent_as lines) then whole_within most_bytes most_lines lines else LineTooLong)) }
 {}
