@@ -1,5 +1,5 @@
 -- Body feeds: what they hold after the lines that came, and what a dot is answered.
-use Rattle.std.proofs.Common.{◌≡◌, ℕ, ◌+◌, ◌≤◌, ◌↔◌, Bool, true, false, cond, leb, ◌||◌, ◌&&◌, ◌⊎◌, inl, inr, List, [], ◌∷◌, ◌++◌, Option, Some, None, Result, Ok, Err, length, map, sym, refl, ap, subst, ◌∙◌, arith, append_assoc, length-append}
+use Rattle.std.proofs.Common.{◌≡◌, ℕ, ◌+◌, ◌↔◌, Bool, true, false, cond, leb, ◌||◌, ◌&&◌, ◌⊎◌, inl, inr, List, [], ◌∷◌, ◌++◌, Some, None, Result, Ok, Err, length, map, sym, refl, ap, subst, ◌∙◌, arith, append_assoc, length-append}
 use Rattle.std.specs.Prelude.{is_none}
 use Rattle.std.specs.List.{AllZip, list_any}
 use Rattle.std.proofs.Math.Bool.{or-true}
@@ -10,7 +10,7 @@ use Rattle.std.proofs.lemmas.List.Folds.{list_any-append}
 use Rattle.pc_base.specs.declared.failure.Memory.{Memory}
 use Rattle.pc_wire.specs.Lines.{has_feed, lines_of, AreSpellings}
 use Rattle.pc_wire.specs.Body.{dot, Carries, IsBody, sent_as, written_body, size_of}
-use Rattle.pc_wire.specs.BodyFeed.{Sent, sent_within, all_fit, is_dot, is_end, content_of, contents, has_long, is_within, whole_within, answer_after, IsSized, CameAs, IsAnswer, BodyState, after, wanting, with_line, joined, Joins, Ends, TakesLine, TakesAll}
+use Rattle.pc_wire.specs.BodyFeed.{Sent, sent_within, all_fit, is_dot, is_end, content_of, contents, has_long, is_within, whole_within, answer_after, answer_within, IsSized, CameAs, IsAnswer, BodyState, after, wanting, with_line, joined, Joins, Ends, TakesLine, TakesAll}
 use Rattle.pc_wire.specs.declared.body_feed.BodyStep.{BodyStep}
 use Rattle.pc_wire.specs.declared.body_feed.BodyStep.TheVariants.{More, Whole, LineTooLong, TooLarge}
 use Rattle.pc_wire.proofs.BodyLemmas.{AllZip-contents, content-Carries, lines_of-body, sent_as-AllZip, written-spelled}
@@ -108,6 +108,7 @@ IsAnswer-after most_bytes most_lines came ends = by_long (has_long came) refl
     by_within : (t : Bool) → is_within most_bytes most_lines (contents came) ≡ t → has_long came ≡ false → IsAnswer most_bytes most_lines came (cond t (Whole (contents came)) TooLarge)
     by_within true within long = (CameAs-contents came ends long, within)
     by_within false past long = (contents came, (CameAs-contents came ends long, past))
+
     by_long : (t : Bool) → has_long came ≡ t → IsAnswer most_bytes most_lines came (cond t LineTooLong (whole_within most_bytes most_lines (contents came)))
     by_long true long = long
     by_long false long = by_within (is_within most_bytes most_lines (contents came)) refl long
@@ -181,7 +182,7 @@ some_is_long limit (s ∷ ss) all = by_test (leb (length s) limit) all (some_is_
     by_test false all rest = refl
 
 -- sent lines are answered with what they carry, unless it passes a number or one is past its limit
-answer_after-carried : (most_bytes most_lines limit : ℕ) (sent lines : List (List ℕ)) → AllZip Carries sent lines → answer_after most_bytes most_lines (map (sent_within limit) sent) ≡ cond (all_fit limit sent) (whole_within most_bytes most_lines lines) LineTooLong
+answer_after-carried : (most_bytes most_lines limit : ℕ) (sent lines : List (List ℕ)) → AllZip Carries sent lines → answer_after most_bytes most_lines (map (sent_within limit) sent) ≡ answer_within most_bytes most_lines limit sent lines
 answer_after-carried most_bytes most_lines limit sent lines carry =
     by_test (all_fit limit sent) refl
   where
@@ -189,7 +190,7 @@ answer_after-carried most_bytes most_lines limit sent lines carry =
     by_test true all = rw (all_come limit sent all, long-map_Some sent, contents-map_Some sent, ← (AllZip-contents sent lines carry).1) refl
     by_test false all = rw (some_is_long limit sent all) refl
 
-pub body_is_read : (most_bytes most_lines limit : ℕ) (lines : List (List ℕ)) (bytes rest : List ℕ) → IsBody lines bytes → (sent : List (List ℕ)) × ((lines_of (bytes ++ rest) ≡ sent ++ dot ∷ lines_of rest) × AllZip Carries sent lines × (list_any is_dot sent ≡ false) × (answer_after most_bytes most_lines (map (sent_within limit) sent) ≡ cond (all_fit limit sent) (whole_within most_bytes most_lines lines) LineTooLong))
+pub body_is_read : (most_bytes most_lines limit : ℕ) (lines : List (List ℕ)) (bytes rest : List ℕ) → IsBody lines bytes → (sent : List (List ℕ)) × ((lines_of (bytes ++ rest) ≡ sent ++ dot ∷ lines_of rest) × AllZip Carries sent lines × (list_any is_dot sent ≡ false) × (answer_after most_bytes most_lines (map (sent_within limit) sent) ≡ answer_within most_bytes most_lines limit sent lines))
 body_is_read most_bytes most_lines limit lines bytes rest (sent, (carry, spelled)) =
     (sent, (lines_of-body sent bytes rest spelled, carry, (AllZip-contents sent lines carry).0, answer_after-carried most_bytes most_lines limit sent lines carry))
 
@@ -230,6 +231,6 @@ only_bodies most_bytes most_lines limit lines bytes sent dots spelled answer =
     let (others, (came, carry)) = exact.0 in
     (sent, (subst (λ (all : List (List ℕ)). AllZip Carries all lines) (sym (sent_within-are limit sent others came)) carry, spelled))
 
-pub written_is_read : (most_bytes most_lines limit : ℕ) (lines : List (List ℕ)) (rest : List ℕ) → list_any has_feed lines ≡ false → (lines_of (written_body lines ++ rest) ≡ map sent_as lines ++ dot ∷ lines_of rest) × (answer_after most_bytes most_lines (map (sent_within limit) (map sent_as lines)) ≡ cond (all_fit limit (map sent_as lines)) (whole_within most_bytes most_lines lines) LineTooLong)
+pub written_is_read : (most_bytes most_lines limit : ℕ) (lines : List (List ℕ)) (rest : List ℕ) → list_any has_feed lines ≡ false → (lines_of (written_body lines ++ rest) ≡ map sent_as lines ++ dot ∷ lines_of rest) × (answer_after most_bytes most_lines (map (sent_within limit) (map sent_as lines)) ≡ answer_within most_bytes most_lines limit (map sent_as lines) lines)
 written_is_read most_bytes most_lines limit lines rest h =
     (lines_of-body (map sent_as lines) (written_body lines) rest (written-spelled lines h), answer_after-carried most_bytes most_lines limit (map sent_as lines) lines (sent_as-AllZip lines))

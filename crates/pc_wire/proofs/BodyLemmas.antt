@@ -1,7 +1,7 @@
 -- Bodies: what sent lines carry, and how bodies are spelled.
-use Rattle.std.proofs.Common.{◌≡◌, ℕ, suc, ◌+◌, ◌<◌, Bool, true, false, cond, eqb, ◌||◌, ◌⊎◌, inl, inr, List, [], ◌∷◌, ◌++◌, length, map, take, drop, get_or, sym, refl, ap, subst, ◌∙◌, arith, append_assoc}
+use Rattle.std.proofs.Common.{◌≡◌, ℕ, suc, ◌<◌, Bool, true, false, cond, eqb, inl, inr, List, [], ◌∷◌, ◌++◌, length, map, take, drop, get_or, sym, refl, ap, ◌∙◌, arith, append_assoc}
 use Rattle.std.specs.List.{AllZip, flat_map, list_any}
-use Rattle.std.proofs.lemmas.Bool.{or_parts, or_from, eqb-true, cases_Bool, false≢true}
+use Rattle.std.proofs.lemmas.Bool.{or_parts, or_from, eqb-true, false≢true}
 use Rattle.std.proofs.lemmas.Grind.{flat_map-append}
 use Rattle.std.proofs.lemmas.List.{append_cancel_left, take-append-drop}
 use Rattle.std.proofs.Math.Seq.{drop-cons}
@@ -34,6 +34,7 @@ content-Carries (b ∷ bs) h = by_test (eqb b 46) refl
     more : (bytes : List ℕ) → eqb b 46 ≡ true → is_dot (b ∷ bytes) ≡ false → 0 < length bytes
     more [] e h = absurd (false≢true (sym h ∙ e))
     more (c ∷ cs) e h = omega arith
+
     by_test : (t : Bool) → eqb b 46 ≡ t → Carries (b ∷ bs) (cond t bs (b ∷ bs))
     by_test true e = inr (ap (λ byte. byte ∷ bs) (eqb-true b 46 e), more bs e h)
     by_test false e = inl (refl, e)
@@ -60,6 +61,7 @@ sent_as-Carries line = by_test (is_dotted line) refl
     some : (line : List ℕ) → is_dotted line ≡ true → 0 < length line
     some [] e = absurd (false≢true e)
     some (b ∷ bs) e = omega arith
+
     by_test : (t : Bool) → is_dotted line ≡ t → Carries (cond t (46 ∷ line) line) line
     by_test true e = inr (refl, some line e)
     by_test false e = inl (refl, e)

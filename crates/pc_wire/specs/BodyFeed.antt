@@ -1,5 +1,5 @@
 -- What a body feed holds, and how lines change it.
-use Rattle.std.specs.Prelude.{◌≡◌, ℕ, ◌≤◌, Bool, true, false, ◌==◌, ◌&&◌, ◌||◌, nat_le, List, [], ◌∷◌, ◌++◌, ◌⊎◌, length, map, Option, Some, None, is_none, Result, Ok, Err, IsTrue, MatchBool, if◌then◌else◌}
+use Rattle.std.specs.Prelude.{◌≡◌, ℕ, Bool, false, ◌==◌, ◌&&◌, nat_le, List, [], ◌∷◌, ◌++◌, length, map, Option, Some, None, is_none, Result, Ok, Err, IsTrue, MatchBool, if◌then◌else◌}
 use Rattle.std.specs.List.{AllZip, list_any, list_all}
 use Rattle.pc_base.specs.Line.{is_line}
 use Rattle.pc_base.specs.declared.failure.Memory.{Memory}
@@ -67,6 +67,11 @@ abbrev pub answer_after : ℕ → ℕ → List Sent → BodyStep
 answer_after most_bytes most_lines came =
     if has_long came then LineTooLong else whole_within most_bytes most_lines (contents came)
 
+-- what a dot is answered after these sent lines, which carry the other lines, where each line has a limit
+abbrev pub answer_within : ℕ → ℕ → ℕ → List (List ℕ) → List (List ℕ) → BodyStep
+answer_within most_bytes most_lines limit sent lines =
+    if all_fit limit sent then whole_within most_bytes most_lines lines else LineTooLong
+
 -- the size is that of the lines that are kept, if any are
 abbrev pub IsSized : Result BodyStep Memory → ℕ → Type 0
 IsSized (Ok (Whole lines)) size = size ≡ size_of lines
@@ -86,6 +91,7 @@ IsAnswer most_bytes most_lines came LineTooLong = IsTrue (has_long came)
 IsAnswer most_bytes most_lines came TooLarge = (lines : List (List ℕ)) × (CameAs came lines × (is_within most_bytes most_lines lines ≡ false))
 IsAnswer most_bytes most_lines came More = ⊥
 
+-- what a body feed holds
 pub record BodyState : Type 0 where
   -- the most bytes and the most lines of a body
   pub most_bytes : ℕ

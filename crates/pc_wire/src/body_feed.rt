@@ -103,6 +103,7 @@ impl BodyFeed {
         requires { IsTrue (fits line.now) }
         ensures { Joins self.old (Some line.now) self.new result }
     {
+        // Where the line can't be kept, want of memory stands.
         let lines = match mem::replace(&mut self.so_far, Err(Memory)) {
             Ok(BodyStep::Whole(lines)) => lines,
             other => {

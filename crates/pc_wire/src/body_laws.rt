@@ -1,15 +1,15 @@
 //! Laws of bodies and body feeds. The functions do nothing: each contract is a law.
 
-ghost use Rattle.std.specs.Prelude.{◌≡◌, ◌≤◌, ℕ, ◌↔◌, false, List, [], ◌∷◌, ◌++◌, ◌⊎◌, Some, Ok, Err, Result, map, if◌then◌else◌};
+ghost use Rattle.std.specs.Prelude.{◌≡◌, ◌≤◌, ℕ, ◌↔◌, false, List, [], ◌∷◌, ◌++◌, ◌⊎◌, Some, Ok, Err, Result, map};
 ghost use Rattle.std.specs.List.{AllZip, list_any};
 ghost use Rattle.pc_base.specs.declared.failure.Memory.{Memory};
 ghost use Rattle.pc_wire.specs.Lines.{has_feed, lines_of, AreSpellings};
 ghost use Rattle.pc_wire.specs.Next.{ShowsLine};
 ghost use Rattle.pc_wire.specs.Body.{dot, Carries, IsBody, sent_as, written_body};
-ghost use Rattle.pc_wire.specs.BodyFeed.{Sent, sent_of, sent_within, all_fit, is_dot, is_end, content_of, whole_within, answer_after, IsAnswer, BodyState, after, wanting, TakesLine, TakesAll};
+ghost use Rattle.pc_wire.specs.BodyFeed.{Sent, sent_of, sent_within, is_dot, is_end, content_of, answer_after, answer_within, IsAnswer, BodyState, after, wanting, TakesLine, TakesAll};
 ghost use Rattle.pc_wire.specs.declared.line_feed.Next.{Next};
 ghost use Rattle.pc_wire.specs.declared.body_feed.BodyStep.{BodyStep};
-ghost use Rattle.pc_wire.specs.declared.body_feed.BodyStep.TheVariants.{More, Whole, LineTooLong};
+ghost use Rattle.pc_wire.specs.declared.body_feed.BodyStep.TheVariants.{More, Whole};
 
 /// Each sent line but the single dot carries one line of content; the dot carries none.
 pub fn one_line_is_carried()
@@ -62,11 +62,11 @@ pub fn lines_join()
 pub fn body_is_read()
     ensures all { (most_bytes most_lines limit : ℕ) (lines : List (List ℕ)) (bytes rest : List ℕ) → IsBody lines bytes →
         (sent : List (List ℕ)) × (
-            (lines_of (bytes ++ rest) ≡ sent ++ dot ∷ lines_of rest)
-            × AllZip Carries sent lines
-            × (list_any is_dot sent ≡ false)
-            × (answer_after most_bytes most_lines (map (sent_within limit) sent)
-                ≡ (if all_fit limit sent then whole_within most_bytes most_lines lines else LineTooLong))) }
+        (lines_of (bytes ++ rest) ≡ sent ++ dot ∷ lines_of rest)
+        × AllZip Carries sent lines
+        × (list_any is_dot sent ≡ false)
+        × (answer_after most_bytes most_lines (map (sent_within limit) sent)
+        ≡ answer_within most_bytes most_lines limit sent lines)) }
     ensures only { (most_bytes most_lines limit : ℕ) (lines : List (List ℕ)) (bytes : List ℕ) (sent : List (List ℕ)) →
         list_any is_dot sent ≡ false → AreSpellings bytes (sent ++ dot ∷ []) →
         answer_after most_bytes most_lines (map (sent_within limit) sent) ≡ Whole lines → IsBody lines bytes }
@@ -77,5 +77,5 @@ pub fn written_is_read()
     ensures { (most_bytes most_lines limit : ℕ) (lines : List (List ℕ)) (rest : List ℕ) → list_any has_feed lines ≡ false →
         (lines_of (written_body lines ++ rest) ≡ map sent_as lines ++ dot ∷ lines_of rest)
         × (answer_after most_bytes most_lines (map (sent_within limit) (map sent_as lines))
-            ≡ (if all_fit limit (map sent_as lines) then whole_within most_bytes most_lines lines else LineTooLong)) }
+        ≡ answer_within most_bytes most_lines limit (map sent_as lines) lines) }
 {}

@@ -1,4 +1,4 @@
-use Rattle.std.proofs.Common.{ℕ, List, sym, subst}
+use Rattle.std.proofs.Common.{ℕ, List, subst}
 use Rattle.std.proofs.lemmas.Result.{err_from_is_err_and}
 use Rattle.pc_base.specs.Stream.{AppendsFront, WritesAll}
 use Rattle.pc_wire.proofs.WritingLemmas.{written_content-parts, AppendsFront-longer, WritesAll-after}

@@ -1,4 +1,4 @@
-use Rattle.std.proofs.Common.{◌≡◌, List, [], ◌∷◌, ◌++◌, cond, Ok, refl, ap, ◌∙◌, sym}
+use Rattle.std.proofs.Common.{[], ◌∷◌, ◌++◌, cond, Ok, refl, ap, ◌∙◌, sym}
 use Rattle.std.proofs.lemmas.Result.{err_from_is_err_and}
 use Rattle.pc_wire.specs.declared.body_feed.BodyStep.TheVariants.{Whole, TooLarge}
 use Rattle.pc_wire.proofs.BodyFeedLemmas.{joined-is, wants, with_line-is, size_of-kept}
