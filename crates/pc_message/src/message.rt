@@ -1,0 +1,104 @@
+//! A message: a list of lines of bounded size.
+
+ghost use Rattle.std.specs.Prelude.{◌≡◌, ℕ, ◌+◌, ◌<◌, ◌≤◌, List, [], ◌∷◌, ◌++◌, IfOk, MatchResult};
+ghost use Rattle.std.specs.Option.{SomeIff};
+ghost use Rattle.pc_message.specs.Message.{size_of};
+
+use pc_base::{Line, LineFault, Lines, Memory};
+use std::alloc::Global;
+use std::marker::Model;
+
+/// Lines whose size, with two bytes for the end of each, is at most 65,536 bytes.
+#[derive(Drop)]
+pub struct Message {
+    lines: Lines,
+}
+
+impl Model for Message {
+    ghost use Rattle.std.specs.Prelude.{ℕ, List, ◌≤◌};
+    ghost use Rattle.pc_message.specs.Message.{size_of};
+
+    ghost Value = { List (List ℕ) };
+
+    ghost view = { λ message. message.lines };
+
+    ghost invariant = { λ message. size_of message.lines ≤ 65536 };
+}
+
+impl Message {
+    /// The message of these lines. They are handed back exactly where their size passes 65,536 bytes.
+    pub fn of(lines: Lines) -> Result<Message, Lines>
+        ensures { MatchResult result (λ message. (message ≡ lines) × (size_of lines ≤ 65536)) (λ back. (back ≡ lines) × (65536 < size_of lines)) }
+    {
+        if size_within(lines.as_slice()).is_none() {
+            return Err(lines);
+        }
+        Ok(Message { lines })
+    }
+
+    /// The bytes of all lines, with two for the end of each.
+    pub fn size(&self) -> u32
+        ensures size { result ≡ size_of self.now }
+        ensures bound { result ≤ 65536 }
+    {
+        size_within(self.lines.as_slice()).unwrap()
+    }
+
+    /// The lines, in order.
+    pub fn lines(&self) -> &Lines
+        ensures { result.now ≡ self.now }
+    {
+        &self.lines
+    }
+
+    /// What a kept message counts for: its size and 256 bytes more.
+    pub fn weight(&self) -> u32
+        ensures weight { result ≡ size_of self.now + 256 }
+        ensures bound { result ≤ 65792 }
+    {
+        self.size() + 256
+    }
+
+    /// Another message with the same lines.
+    pub fn copy(&self, alloc: Global) -> Result<Message, Memory>
+        ensures { IfOk result (λ copy. copy ≡ self.now) }
+    {
+        Ok(Message {
+            lines: copy_of_lines(alloc, self.lines.as_slice())?,
+        })
+    }
+}
+
+/// The size of these lines, where it is at most 65,536 bytes.
+fn size_within(lines: &[Line]) -> Option<u32>
+    ensures { SomeIff result (size_of lines.now ≤ 65536) (size_of lines.now) }
+{
+    let mut size: u32 = 0;
+    for line in lines {
+        size += line.bytes().len() as u32 + 2;
+        if size > 65_536 {
+            return None;
+        }
+    }
+    Some(size)
+}
+
+fn copy_of_lines(alloc: Global, lines: &[Line]) -> Result<Lines, Memory>
+    ensures { IfOk result (λ copy. copy ≡ lines.now) }
+{
+    let mut copy = Lines::new(alloc);
+    for line in lines {
+        copy.push(copy_of_line(alloc, line)?)?;
+    }
+    Ok(copy)
+}
+
+fn copy_of_line(alloc: Global, line: &Line) -> Result<Line, Memory>
+    ensures { IfOk result (λ copy. copy ≡ line.now) }
+{
+    match Line::copy_of(alloc, line.bytes()) {
+        Ok(copy) => Ok(copy),
+        Err(LineFault::Memory) => Err(Memory),
+        Err(_) => unreachable!(),
+    }
+}
