@@ -1,6 +1,14 @@
 //! What a client is told of a message.
 
-use pc_base::Line;
+ghost use Rattle.std.specs.Prelude.{◌≡◌, ◌≤◌, ◌==◌, false, take, length, OnOk, IfOk, MatchOption, [], if◌then◌else◌};
+ghost use Rattle.pc_base.specs.Line.{has_feed};
+ghost use Rattle.pc_message.specs.Descriptor.{descriptor_of};
+ghost use Rattle.pc_message.specs.Header.{field_text, has_name as named};
+
+use crate::header::{Field, has_name, next_field, trimmed, unfolded};
+use crate::message::Message;
+use pc_base::{Line, LineFault, Memory};
+use std::alloc::Global;
 
 /// A message in a few numbers and texts. Each text has at most 128 bytes and is empty where the
 /// header has no such field.
@@ -26,4 +34,69 @@ pub enum Change {
     Present(Descriptor),
     /// The message with this uid is gone.
     Expunged(u32),
+}
+
+/// The descriptor of a message with this uid and these flags.
+pub fn describe(alloc: Global, message: &Message, uid: u32, flags: u16) -> Result<Descriptor, Memory>
+    ensures { IfOk result (λ descriptor. descriptor ≡ descriptor_of message.now uid flags) }
+{
+    let lines = message.lines().as_slice();
+    let mut date = None;
+    let mut from = None;
+    let mut to = None;
+    let mut subject = None;
+    let mut rest = lines;
+    while let Some(field) = next_field(rest) {
+        set_first(alloc, &mut date, b"date:", &field)?;
+        set_first(alloc, &mut from, b"from:", &field)?;
+        set_first(alloc, &mut to, b"to:", &field)?;
+        set_first(alloc, &mut subject, b"subject:", &field)?;
+        rest = field.rest;
+    }
+    Ok(Descriptor {
+        uid,
+        flags,
+        bytes: message.size(),
+        lines: lines.len() as u32,
+        date: or_empty(alloc, date)?,
+        from: or_empty(alloc, from)?,
+        to: or_empty(alloc, to)?,
+        subject: or_empty(alloc, subject)?,
+    })
+}
+
+/// Keeps the field's text, cut at 128 bytes, where the field has this name and is the first.
+fn set_first(alloc: Global, text: &mut Option<Line>, name: &[u8], field: &Field) -> Result<(), Memory>
+    ensures { OnOk result (MatchOption text.old (text.new ≡ (if named name.now field.now.line.now then Some (take 128 (field_text field.now.line.now field.now.folded.now)) else None)) (λ first. text.new ≡ Some first)) }
+{
+    if text.is_some() {
+        return Ok(());
+    }
+    if !has_name(name, field.line.bytes()) {
+        return Ok(());
+    }
+    let whole = unfolded(alloc, field)?;
+    *text = Some(cut_line(alloc, trimmed(&whole))?);
+    Ok(())
+}
+
+/// The first 128 bytes as a line.
+fn cut_line(alloc: Global, text: &[u8]) -> Result<Line, Memory>
+    requires { has_feed text.now ≡ false }
+    ensures { IfOk result (λ line. line ≡ take 128 text.now) }
+{
+    match Line::copy_of(alloc, &text[..text.len().min(128)]) {
+        Ok(line) => Ok(line),
+        Err(LineFault::Memory) => Err(Memory),
+        Err(_) => unreachable!(),
+    }
+}
+
+fn or_empty(alloc: Global, text: Option<Line>) -> Result<Line, Memory>
+    ensures { IfOk result (λ line. MatchOption text (line ≡ []) (λ first. line ≡ first)) }
+{
+    match text {
+        Some(line) => Ok(line),
+        None => cut_line(alloc, &[]),
+    }
 }
