@@ -1,5 +1,5 @@
 -- What a client is told of a message.
-use Rattle.std.specs.Prelude.{ℕ, List, [], length, take, codes}
+use Rattle.std.specs.Prelude.{ℕ, Bool, List, [], length, take, codes, Option, Some, None, if◌then◌else◌}
 use Rattle.std.specs.List.{slice_index_or}
 use Rattle.pc_message.specs.Header.{header_of, has_name, texts_of}
 use Rattle.pc_message.specs.Message.{size_of}
@@ -21,3 +21,8 @@ descriptor_of message uid flags = record {
   to = first_text (codes "to:") message;
   subject = first_text (codes "subject:") message;
 }
+
+-- the text that was kept before, or this one where its field has the name
+abbrev pub first_kept : Option (List ℕ) → Bool → List ℕ → Option (List ℕ)
+first_kept (Some first) named text = Some first
+first_kept None named text = if named then Some text else None

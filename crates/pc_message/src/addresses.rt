@@ -5,7 +5,7 @@ ghost use Rattle.std.specs.Option.{option_map};
 ghost use Rattle.pc_message.specs.Collecting.{AddsOutcome, NameOutcome, field_addresses, with_name};
 ghost use Rattle.pc_message.specs.Recipients.{RecipientsOutcome, address_of, addresses_of, after_opening, bracketed as inside_brackets, is_recipient_field as names_recipients, item_addresses, items_of, quoted_after as quote_open, text_addresses, without_host as host_off};
 
-use crate::header::{Field, has_name, next_field, trimmed, unfolded};
+use crate::header::{Field, has_name, next_field, place_of, trimmed, unfolded};
 use crate::message::Message;
 use pc_base::{Memory, Name, Names, Recipient};
 use std::alloc::Global;
@@ -160,7 +160,7 @@ fn bracketed(item: &[u8]) -> &[u8]
         return item;
     };
     let rest = &item[start..];
-    match rest.iter().position(|byte| *byte == b'>') {
+    match place_of(b'>', rest) {
         Some(close) => &rest[..close],
         None => item,
     }

@@ -1,13 +1,12 @@
 //! What a client is told of a message.
 
-ghost use Rattle.std.specs.Prelude.{◌≡◌, ◌≤◌, ◌==◌, false, take, length, OnOk, IfOk, MatchOption, [], if◌then◌else◌};
-ghost use Rattle.pc_base.specs.Line.{has_feed};
-ghost use Rattle.pc_message.specs.Descriptor.{descriptor_of};
+ghost use Rattle.std.specs.Prelude.{◌≡◌, ◌≤◌, ◌==◌, false, take, length, OnOk, IfOk, MatchOption, []};
+ghost use Rattle.pc_message.specs.Descriptor.{descriptor_of, first_kept};
 ghost use Rattle.pc_message.specs.Header.{field_text, has_name as named};
 
 use crate::header::{Field, has_name, next_field, trimmed, unfolded};
-use crate::message::Message;
-use pc_base::{Line, LineFault, Memory};
+use crate::message::{Message, line_of};
+use pc_base::{Line, Memory};
 use std::alloc::Global;
 
 /// A message in a few numbers and texts. Each text has at most 128 bytes and is empty where the
@@ -65,9 +64,9 @@ pub fn describe(alloc: Global, message: &Message, uid: u32, flags: u16) -> Resul
     })
 }
 
-/// Keeps the field's text, cut at 128 bytes, where the field has this name and is the first.
+/// Keeps the field's text where the field has this name and none was kept before.
 fn set_first(alloc: Global, text: &mut Option<Line>, name: &[u8], field: &Field) -> Result<(), Memory>
-    ensures { OnOk result (MatchOption text.old (text.new ≡ (if named name.now field.now.line.now then Some (take 128 (field_text field.now.line.now field.now.folded.now)) else None)) (λ first. text.new ≡ Some first)) }
+    ensures { OnOk result (text.new ≡ first_kept text.old (named name.now field.now.line.now) (take 128 (field_text field.now.line.now field.now.folded.now))) }
 {
     if text.is_some() {
         return Ok(());
@@ -75,21 +74,17 @@ fn set_first(alloc: Global, text: &mut Option<Line>, name: &[u8], field: &Field)
     if !has_name(name, field.line.bytes()) {
         return Ok(());
     }
-    let whole = unfolded(alloc, field)?;
-    *text = Some(cut_line(alloc, trimmed(&whole))?);
+    *text = Some(cut_text(alloc, field)?);
     Ok(())
 }
 
-/// The first 128 bytes as a line.
-fn cut_line(alloc: Global, text: &[u8]) -> Result<Line, Memory>
-    requires { has_feed text.now ≡ false }
-    ensures { IfOk result (λ line. line ≡ take 128 text.now) }
+/// The field's text, cut at 128 bytes.
+fn cut_text(alloc: Global, field: &Field) -> Result<Line, Memory>
+    ensures { IfOk result (λ line. line ≡ take 128 (field_text field.now.line.now field.now.folded.now)) }
 {
-    match Line::copy_of(alloc, &text[..text.len().min(128)]) {
-        Ok(line) => Ok(line),
-        Err(LineFault::Memory) => Err(Memory),
-        Err(_) => unreachable!(),
-    }
+    let whole = unfolded(alloc, field)?;
+    let text = trimmed(&whole);
+    line_of(alloc, &text[..128usize.min(text.len())])
 }
 
 fn or_empty(alloc: Global, text: Option<Line>) -> Result<Line, Memory>
@@ -97,6 +92,6 @@ fn or_empty(alloc: Global, text: Option<Line>) -> Result<Line, Memory>
 {
     match text {
         Some(line) => Ok(line),
-        None => cut_line(alloc, &[]),
+        None => line_of(alloc, &[]),
     }
 }

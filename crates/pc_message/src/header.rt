@@ -1,7 +1,7 @@
 //! The fields of a message's header.
 
-ghost use Rattle.std.specs.Prelude.{◌≡◌, ◌++◌, ◌==◌, false, MatchOption, IfOk, IsTrue};
-ghost use Rattle.std.specs.List.{concat, prefix_len, after_first};
+ghost use Rattle.std.specs.Prelude.{◌≡◌, ◌≤◌, ◌++◌, ◌==◌, false, length, ◌<◌, MatchOption, IfSome, IfOk};
+ghost use Rattle.std.specs.List.{concat, prefix_len, position, after_first};
 ghost use Rattle.pc_base.specs.Line.{has_feed};
 ghost use Rattle.pc_message.specs.Header.{IsField, IsHeaderEnd, is_blank as blank, is_folded as folded, has_name as named, trimmed as text_trimmed, trimmed_front as front_trimmed, trimmed_back as back_trimmed};
 
@@ -36,7 +36,8 @@ pub fn next_field(lines: &[Line]) -> Option<Field<'_>>
 
 /// How many lines from the front on begin with a blank.
 fn folded_count(lines: &[Line]) -> usize
-    ensures { result ≡ prefix_len folded lines.now }
+    ensures count { result ≡ prefix_len folded lines.now }
+    ensures bound { result ≤ length lines.now }
 {
     for (count, line) in lines.iter().enumerate() {
         if !is_folded(line.bytes()) {
@@ -86,10 +87,18 @@ pub fn unfolded(alloc: Global, field: &Field) -> Result<Vec<u8>, Memory>
 fn after_colon(line: &[u8]) -> &[u8]
     ensures { result.now ≡ after_first (λ byte. byte == 58) line.now }
 {
-    match line.iter().position(|byte| *byte == b':') {
+    match place_of(b':', line) {
         Some(colon) => &line[colon + 1..],
         None => &[],
     }
+}
+
+/// The first place of a byte.
+pub fn place_of(wanted: u8, bytes: &[u8]) -> Option<usize>
+    ensures place { result ≡ position (λ byte. byte == wanted) bytes.now }
+    ensures bound { IfSome result (λ place. place < length bytes.now) }
+{
+    bytes.iter().position(|byte| *byte == wanted)
 }
 
 /// The bytes without the spaces and tabs at both ends.

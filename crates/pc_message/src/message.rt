@@ -1,6 +1,7 @@
 //! A message: a list of lines of bounded size.
 
-ghost use Rattle.std.specs.Prelude.{◌≡◌, ℕ, ◌+◌, ◌<◌, ◌≤◌, List, [], ◌∷◌, ◌++◌, IfOk, MatchResult};
+ghost use Rattle.std.specs.Prelude.{◌≡◌, ℕ, ◌+◌, ◌<◌, ◌≤◌, List, [], ◌∷◌, ◌++◌, IfOk, MatchResult, IsTrue};
+ghost use Rattle.pc_base.specs.Line.{is_line};
 ghost use Rattle.std.specs.Option.{SomeIff};
 ghost use Rattle.pc_message.specs.Message.{size_of};
 
@@ -12,17 +13,18 @@ use std::marker::Model;
 #[derive(Drop)]
 pub struct Message {
     lines: Lines,
+    bytes: u32,
 }
 
 impl Model for Message {
-    ghost use Rattle.std.specs.Prelude.{ℕ, List, ◌≤◌};
+    ghost use Rattle.std.specs.Prelude.{◌≡◌, ℕ, List, ◌≤◌};
     ghost use Rattle.pc_message.specs.Message.{size_of};
 
     ghost Value = { List (List ℕ) };
 
     ghost view = { λ message. message.lines };
 
-    ghost invariant = { λ message. size_of message.lines ≤ 65536 };
+    ghost invariant = { λ message. (message.bytes ≡ size_of message.lines) × (message.bytes ≤ 65536) };
 }
 
 impl Message {
@@ -30,10 +32,10 @@ impl Message {
     pub fn of(lines: Lines) -> Result<Message, Lines>
         ensures { MatchResult result (λ message. (message ≡ lines) × (size_of lines ≤ 65536)) (λ back. (back ≡ lines) × (65536 < size_of lines)) }
     {
-        if size_within(lines.as_slice()).is_none() {
-            return Err(lines);
+        match size_within(lines.as_slice()) {
+            Some(bytes) => Ok(Message { lines, bytes }),
+            None => Err(lines),
         }
-        Ok(Message { lines })
     }
 
     /// The bytes of all lines, with two for the end of each.
@@ -41,7 +43,7 @@ impl Message {
         ensures size { result ≡ size_of self.now }
         ensures bound { result ≤ 65536 }
     {
-        size_within(self.lines.as_slice()).unwrap()
+        self.bytes
     }
 
     /// The lines, in order.
@@ -65,6 +67,7 @@ impl Message {
     {
         Ok(Message {
             lines: copy_of_lines(alloc, self.lines.as_slice())?,
+            bytes: self.bytes,
         })
     }
 }
@@ -88,16 +91,18 @@ fn copy_of_lines(alloc: Global, lines: &[Line]) -> Result<Lines, Memory>
 {
     let mut copy = Lines::new(alloc);
     for line in lines {
-        copy.push(copy_of_line(alloc, line)?)?;
+        copy.push(line_of(alloc, line.bytes())?)?;
     }
     Ok(copy)
 }
 
-fn copy_of_line(alloc: Global, line: &Line) -> Result<Line, Memory>
-    ensures { IfOk result (λ copy. copy ≡ line.now) }
+/// A line of bytes that are known to be one.
+pub fn line_of(alloc: Global, bytes: &[u8]) -> Result<Line, Memory>
+    requires { IsTrue (is_line bytes.now) }
+    ensures { IfOk result (λ line. line ≡ bytes.now) }
 {
-    match Line::copy_of(alloc, line.bytes()) {
-        Ok(copy) => Ok(copy),
+    match Line::copy_of(alloc, bytes) {
+        Ok(line) => Ok(line),
         Err(LineFault::Memory) => Err(Memory),
         Err(_) => unreachable!(),
     }

@@ -1,0 +1,4 @@
+pub mod Feeds
+pub mod Firsts
+pub mod Places
+pub mod Texts
