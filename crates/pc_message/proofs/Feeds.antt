@@ -1,5 +1,5 @@
 -- Texts made of lines have no LF.
-use Rattle.std.proofs.Common.{◌≡◌, ℕ, Bool, true, false, zero, suc, List, [], ◌∷◌, ◌++◌, take, drop, IsTrue, refl, ◌==◌, length, min, ◌≤◌, ◌-◌, sym, subst, arith}
+use Rattle.std.proofs.Common.{◌≡◌, ℕ, false, zero, suc, List, [], ◌∷◌, ◌++◌, take, drop, IsTrue, refl, ◌==◌, length, min, ◌≤◌, ◌-◌, sym, subst, arith}
 use Rattle.std.proofs.lemmas.List.{length-take}
 use Rattle.std.proofs.lemmas.Bool.Decides.{nat_tests}
 use Rattle.std.proofs.lemmas.Bool.{or_from, or_parts}

@@ -1,9 +1,9 @@
 -- The first text of each name, as the fields are read one after another.
-use Rattle.std.proofs.Common.{◌≡◌, ◌==◌, ◌*◌, ◌≤◌, ℕ, Bool, true, false, cond, List, [], ◌∷◌, length, take, get_or, codes, Option, Some, None, unwrap_or, MatchOption, refl, sym, ap, ◌∙◌, arith}
+use Rattle.std.proofs.Common.{◌≡◌, ◌*◌, ◌≤◌, ℕ, Bool, true, false, cond, List, [], ◌∷◌, length, take, get_or, codes, Option, Some, None, unwrap_or, MatchOption, refl, sym, ap, ◌∙◌, arith}
 use Rattle.std.specs.Char.{to_ascii_lowercase}
 use Rattle.pc_message.specs.Descriptor.{descriptor_of, first_text, first_kept}
 use Rattle.pc_message.specs.declared.descriptor.Descriptor.{Descriptor}
-use Rattle.pc_message.specs.Header.{IsField, IsHeaderEnd, header_of, is_blank, is_folded, has_name, field_text, texts_of}
+use Rattle.pc_message.specs.Header.{IsField, IsHeaderEnd, header_of, is_blank, has_name, field_text, texts_of}
 use Rattle.pc_message.specs.Message.{size_of}
 use Rattle.pc_message.proofs.Texts.{header_of-end, texts_of-next, has_name-folded}
 

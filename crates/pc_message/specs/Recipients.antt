@@ -1,5 +1,5 @@
 -- The recipients of a message.
-use Rattle.std.specs.Prelude.{◌≡◌, ℕ, ◌-◌, ◌<◌, ◌≤◌, ◌==◌, nat_eq, nat_lt, Bool, true, false, not, ◌&&◌, ◌||◌, List, [], ◌∷◌, length, take, map, codes, Option, Some, None, Result, Ok, Err, if◌then◌else◌}
+use Rattle.std.specs.Prelude.{◌≡◌, ℕ, ◌-◌, ◌<◌, ◌≤◌, ◌==◌, nat_eq, Bool, false, not, ◌&&◌, ◌||◌, List, [], ◌∷◌, length, take, codes, Option, Some, None, Result, Ok, Err, if◌then◌else◌}
 use Rattle.std.specs.List.{filter, flat_map, find, ends_with, onto_first, position}
 use Rattle.std.specs.Option.{option_map, option_map_or, option_or}
 use Rattle.std.specs.Str.{bytes_eq, str_to_ascii_lowercase}
@@ -63,7 +63,8 @@ first_unknown addresses = find (λ address. not (is_name address)) addresses
 
 -- the address that is told as unknown: the first that is no name, or an empty one where there is none at all
 abbrev pub unknown_of : List (List ℕ) → Option (List ℕ)
-unknown_of addresses = if length addresses == 0 then Some [] else first_unknown addresses
+unknown_of [] = Some []
+unknown_of (address ∷ others) = first_unknown (address ∷ others)
 
 -- the names, or the first thing that is wrong; want of memory is free
 abbrev pub RecipientsOutcome : List (List ℕ) → Result (List (List ℕ)) RecipientFault → Type 0

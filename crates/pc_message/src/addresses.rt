@@ -1,6 +1,6 @@
 //! The recipients of a message.
 
-ghost use Rattle.std.specs.Prelude.{◌≡◌, ℕ, ◌+◌, ◌≤◌, ◌==◌, List, [], ◌∷◌, length, take, drop, OnOk, IfSome, false, if◌then◌else◌};
+ghost use Rattle.std.specs.Prelude.{◌≡◌, ℕ, ◌+◌, ◌≤◌, ◌==◌, List, [], ◌∷◌, length, take, drop, OnOk, IfSome, false, not, ◌&&◌, if◌then◌else◌};
 ghost use Rattle.std.specs.Option.{option_map};
 ghost use Rattle.pc_message.specs.Collecting.{AddsOutcome, NameOutcome, field_addresses, with_name};
 ghost use Rattle.pc_message.specs.Recipients.{RecipientsOutcome, address_of, addresses_of, after_opening, bracketed as inside_brackets, is_recipient_field as names_recipients, item_addresses, items_of, quoted_after as quote_open, text_addresses, without_host as host_off};
@@ -67,13 +67,13 @@ fn add_text(alloc: Global, names: &mut Names, text: &[u8]) -> Result<(), Recipie
     ensures { AddsOutcome names.old (text_addresses text.now) names.new result }
 {
     let mut rest = text;
-    loop {
-        let end = item_end(rest);
-        add_item(alloc, names, &rest[..end])?;
-        if end == rest.len() {
+    'items: loop {
+        let (item, after) = rest.split_at(item_end(rest));
+        add_item(alloc, names, item)?;
+        let [_, next @ ..] = after else {
             return Ok(());
-        }
-        rest = &rest[end + 1..];
+        };
+        rest = next;
     }
 }
 
@@ -84,12 +84,19 @@ fn item_end(text: &[u8]) -> usize
 {
     let mut quoted = false;
     for (end, byte) in text.iter().enumerate() {
-        if *byte == b',' && !quoted {
+        if is_unquoted(b',', *byte, quoted) {
             return end;
         }
         quoted = quoted_after(quoted, *byte);
     }
     text.len()
+}
+
+/// Whether this is the wanted byte and stands outside quotes.
+fn is_unquoted(wanted: u8, byte: u8, quoted: bool) -> bool
+    ensures { result ≡ (byte == wanted && not quoted) }
+{
+    byte == wanted && !quoted
 }
 
 /// Whether a quote is open behind this byte.
@@ -134,13 +141,19 @@ fn name_of(alloc: Global, item: &[u8]) -> Result<Name, RecipientFault>
     let Ok(small) = trimmed(bracketed(item)).to_ascii_lowercase(alloc) else {
         return Err(RecipientFault::Memory);
     };
-    let address = without_host(&small);
-    let Some(name) = Name::read(address) else {
-        return Err(RecipientFault::Unknown {
+    read_name(without_host(&small))
+}
+
+/// The name that an address is.
+fn read_name(address: &[u8]) -> Result<Name, RecipientFault>
+    ensures { NameOutcome address.now result }
+{
+    match Name::read(address) {
+        Some(name) => Ok(name),
+        None => Err(RecipientFault::Unknown {
             shown: Recipient::shown(address),
-        });
-    };
-    Ok(name)
+        }),
+    }
 }
 
 fn without_host(address: &[u8]) -> &[u8]
@@ -174,7 +187,7 @@ fn opening_end(item: &[u8]) -> Option<usize>
     let mut quoted = false;
     let mut start = None;
     for (place, byte) in item.iter().enumerate() {
-        if *byte == b'<' && !quoted {
+        if is_unquoted(b'<', *byte, quoted) {
             start = Some(place + 1);
         }
         quoted = quoted_after(quoted, *byte);

@@ -36,7 +36,12 @@ pub enum Change {
 }
 
 /// The descriptor of a message with this uid and these flags.
-pub fn describe(alloc: Global, message: &Message, uid: u32, flags: u16) -> Result<Descriptor, Memory>
+pub fn describe(
+    alloc: Global,
+    message: &Message,
+    uid: u32,
+    flags: u16,
+) -> Result<Descriptor, Memory>
     ensures { IfOk result (λ descriptor. descriptor ≡ descriptor_of message.now uid flags) }
 {
     let lines = message.lines().as_slice();
@@ -65,7 +70,12 @@ pub fn describe(alloc: Global, message: &Message, uid: u32, flags: u16) -> Resul
 }
 
 /// Keeps the field's text where the field has this name and none was kept before.
-fn set_first(alloc: Global, text: &mut Option<Line>, name: &[u8], field: &Field) -> Result<(), Memory>
+fn set_first(
+    alloc: Global,
+    text: &mut Option<Line>,
+    name: &[u8],
+    field: &Field,
+) -> Result<(), Memory>
     ensures { OnOk result (text.new ≡ first_kept text.old (named name.now field.now.line.now) (take 128 (field_text field.now.line.now field.now.folded.now))) }
 {
     if text.is_some() {

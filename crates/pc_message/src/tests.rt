@@ -12,7 +12,9 @@ fn lines_of(alloc: Global, texts: &[&str]) -> Result<Lines, Fail> {
 }
 
 fn message_of(alloc: Global, texts: &[&str]) -> Result<Message, Fail> {
-    let message = Message::of(lines_of(alloc, texts)?).ok().ok_or("too large")?;
+    let message = Message::of(lines_of(alloc, texts)?)
+        .ok()
+        .ok_or("too large")?;
     Ok(message)
 }
 
@@ -76,7 +78,8 @@ fn size_is_limited(rt: HostRuntime) -> Result<(), Fail> {
 
 #[test]
 fn fields_are_read(rt: HostRuntime) -> Result<(), Fail> {
-    let long = "subject:\t 123456789 123456789 123456789 123456789 123456789 123456789 123456789 123456789 123456789 123456789 123456789 123456789 123456789 ";
+    let long =
+        "subject:\t 123456789 123456789 123456789 123456789 123456789 123456789 123456789 123456789 123456789 123456789 123456789 123456789 123456789 ";
     let texts = [
         " folded under nothing",
         "DATE: 1 June ",
@@ -99,7 +102,8 @@ fn fields_are_read(rt: HostRuntime) -> Result<(), Fail> {
     assert_eq!(rt; told.date.bytes(), b"1 June".as_slice());
     assert_eq!(rt; told.from.bytes(), b"ann: a \tand    bob".as_slice());
     assert_eq!(rt; told.to.bytes(), b"".as_slice());
-    let cut = b"123456789 123456789 123456789 123456789 123456789 123456789 123456789 123456789 123456789 123456789 123456789 123456789 12345678";
+    let cut =
+        b"123456789 123456789 123456789 123456789 123456789 123456789 123456789 123456789 123456789 123456789 123456789 123456789 12345678";
     assert_eq!(rt; told.subject.bytes(), cut.as_slice());
     Ok(())
 }
@@ -111,7 +115,10 @@ fn recipients_are_read(rt: HostRuntime) -> Result<(), Fail> {
         (&["To: ann smith"], "unknown: ann?smith"),
         (&["Subject: x", "", "To: ann"], "unknown: -"),
         (&["To: ,", "cc: \t"], "unknown: -"),
-        (&["Cc: bob", "Subject: to: eve", "TO: ann", "CC:bob,", "\teve"], "bob ann eve "),
+        (
+            &["Cc: bob", "Subject: to: eve", "TO: ann", "CC:bob,", "\teve"],
+            "bob ann eve ",
+        ),
         (&["To: ann@pcmail@pcmail"], "unknown: ann@pcmail"),
         (&["To: ann, <>, 7"], "unknown: -"),
         (&["To: ann@elsewhere, 7"], "unknown: ann@elsewhere"),
@@ -120,7 +127,10 @@ fn recipients_are_read(rt: HostRuntime) -> Result<(), Fail> {
         (&["To: \"<eve>\" <Bob>>"], "bob "),
         (&["To: \"<eve>\""], "unknown: \"<eve>\""),
         (&["To: ann, \"b,", "Cc: \", bob"], "unknown: \"b,"),
-        (&["To: a123456789a123456789a123456789a123456789a123456789a123456789abcdef"], "unknown: a123456789a123456789a123456789a123456789a123456789a123456789abcd"),
+        (
+            &["To: a123456789a123456789a123456789a123456789a123456789a123456789abcdef"],
+            "unknown: a123456789a123456789a123456789a123456789a123456789a123456789abcd",
+        ),
     ];
     for (texts, want) in table {
         let found = told(rt.alloc(), texts)?;
@@ -142,8 +152,14 @@ fn recipients_are_limited(rt: HostRuntime) -> Result<(), Fail> {
     let names = recipients(rt.alloc(), &message).ok().ok_or("64 names")?;
     assert_eq!(rt; names.as_slice().len(), 64);
     texts.push("Cc: i0")?;
-    assert_eq!(rt; told(rt.alloc(), &texts)?.as_slice(), b"too many".as_slice());
+    assert_eq!(rt;
+        told(rt.alloc(), &texts)?.as_slice(),
+        b"too many".as_slice()
+    );
     texts.push("Cc: i1, +")?;
-    assert_eq!(rt; told(rt.alloc(), &texts)?.as_slice(), b"unknown: +".as_slice());
+    assert_eq!(rt;
+        told(rt.alloc(), &texts)?.as_slice(),
+        b"unknown: +".as_slice()
+    );
     Ok(())
 }

@@ -1,4 +1,4 @@
-use Rattle.std.proofs.Common.{◌≡◌, ◌==◌, ◌+◌, sym, ◌∙◌}
+use Rattle.std.proofs.Common.{◌==◌, ◌+◌, sym, ◌∙◌}
 use Rattle.std.proofs.lemmas.List.{take_rest}
 use Rattle.pc_message.proofs.Places.{after_first-some, after_first-none}
 use Rattle.pc_message.proofs.header.after_colon.Goals as goal

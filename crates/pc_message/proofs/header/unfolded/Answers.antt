@@ -1,8 +1,8 @@
-use Rattle.std.proofs.Common.{◌≡◌, ◌==◌, ◌<◌, ◌+◌, ◌++◌, List, [], ◌∷◌, ℕ, false, get_or, take, length, IsTrue, sym, ap, ◌∙◌, subst, append-nil, append_assoc}
+use Rattle.std.proofs.Common.{◌≡◌, ◌==◌, ◌<◌, ◌+◌, ◌++◌, List, [], ◌∷◌, ℕ, false, get_or, take, length, sym, ap, ◌∙◌, subst, append-nil, append_assoc}
 use Rattle.std.proofs.lemmas.List.{take_more}
 use Rattle.std.proofs.lemmas.List.Folds.{concat-append}
 use Rattle.std.specs.List.{after_first, concat, position_or_len}
-use Rattle.pc_base.specs.Line.{has_feed, is_line}
+use Rattle.pc_base.specs.Line.{has_feed}
 use Rattle.pc_message.proofs.Feeds.{has_feed-append, has_feed-drop, has_feed-line}
 use Rattle.pc_message.proofs.header.unfolded.Goals as goal
 
@@ -23,6 +23,7 @@ pub loop-line-preserved : goal.loop-line-preserved
 loop-line-preserved c =
     let line = c.line-item.result in
     let same : c.extend_from_slice.new.self.items ≡ c.loop-line.text.items ++ line = c.in_ok-extend_from_slice.ensures.items ∙ ap (λ back. c.loop-line.text.items ++ back) c.bytes-in-loop-line.ensures.value in
-    let whole = has_feed-append c.loop-line.text.items line c.loop-line.invariant.1 (has_feed-line line c.bytes-in-loop-line.ensures.line) in
-    (same ∙ concat-more _ _ _ _ _ c.loop-line-test.true c.line-item.is c.loop-line.invariant.0,
-     subst (λ (text : List ℕ). has_feed text ≡ false) (sym same) whole)
+    let whole = has_feed-append c.loop-line.text.items line c.loop-line.invariant.1 (has_feed-line line c.bytes-in-loop-line.ensures.line) in (
+      same ∙ concat-more _ _ _ _ _ c.loop-line-test.true c.line-item.is c.loop-line.invariant.0,
+      subst (λ (text : List ℕ). has_feed text ≡ false) (sym same) whole,
+    )
