@@ -4,7 +4,7 @@ use Rattle.std.proofs.lemmas.Bool.Decides.{nat_tests}
 use Rattle.std.proofs.lemmas.List.{at_drop_more, at_drop_all, drop-drop, length-drop, take_all, take_more, take_rest}
 use Rattle.std.specs.List.{flat_map, onto_first}
 use Rattle.pc_message.proofs.Collected.{StartWith}
-use Rattle.pc_message.specs.Recipients.{item_addresses, items_of, quoted_after, text_addresses}
+use Rattle.pc_message.specs.Recipients.{before_items, item_addresses, items_of, quoted_after, text_addresses}
 
 -- a front before the first item
 pub onto_items : List ℕ → List (List ℕ) → List (List ℕ)
@@ -21,16 +21,16 @@ unfolding onto_items
 onto_first-alone byte [] = refl
 onto_first-alone byte (item ∷ items) = refl
 
-pub items_of-alone : (quoted : Bool) (text : List ℕ) → onto_items [] (items_of quoted text) ≡ items_of quoted text
+items_of-alone : (quoted : Bool) (text : List ℕ) → onto_items [] (items_of quoted text) ≡ items_of quoted text
 unfolding onto_items items_of
 items_of-alone quoted [] = refl
 items_of-alone quoted (byte ∷ text) =
     let items = items_of (quoted_after quoted byte) text in
-    elim (byte == 44 && not quoted) as (λ (split : Bool). onto_items [] (cond split ([] ∷ items_of quoted text) (onto_first byte items)) ≡ cond split ([] ∷ items_of quoted text) (onto_first byte items)) [ true ↦ refl | false ↦ onto_first-alone byte items ]
+    elim (byte == 44 && not quoted) as (λ (split : Bool). onto_items [] (before_items split byte items) ≡ before_items split byte items) [ true ↦ refl | false ↦ onto_first-alone byte items ]
 
-items_of-drop : (quoted : Bool) (text : List ℕ) (end : ℕ) → end < length text → items_of quoted (drop end text) ≡ cond (get_or text end 0 == 44 && not quoted) ([] ∷ items_of quoted (drop (end + 1) text)) (onto_first (get_or text end 0) (items_of (quoted_after quoted (get_or text end 0)) (drop (end + 1) text)))
+items_of-drop : (quoted : Bool) (text : List ℕ) (end byte : ℕ) → end < length text → byte ≡ get_or text end 0 → items_of quoted (drop end text) ≡ before_items (byte == 44 && not quoted) byte (items_of (quoted_after quoted byte) (drop (end + 1) text))
 unfolding items_of
-items_of-drop quoted text end within = at_drop_more (items_of quoted) text end 0 within
+items_of-drop quoted text end byte within read = rw read (at_drop_more (items_of quoted) text end 0 within)
 
 -- the front of a text up to a place, which holds no comma outside quotes, is the front of its first item
 pub record IsFront (text : List ℕ) (end : ℕ) (quoted : Bool) : Type 0 where
@@ -42,16 +42,16 @@ IsFront-none text = record { items = sym (items_of-alone false text) }
 pub IsFront-more : (text : List ℕ) (end byte : ℕ) (quoted : Bool) → end < length text → byte ≡ get_or text end 0 → (byte == 44 && not quoted) ≡ false → IsFront text end quoted → IsFront text (end + 1) (quoted_after quoted byte)
 IsFront-more text end byte quoted within read plain front =
     let items = items_of (quoted_after quoted byte) (drop (end + 1) text) in
-    let next : items_of quoted (drop end text) ≡ onto_first byte items = rw read (items_of-drop quoted text end within) ∙ ap (λ split. cond split ([] ∷ items_of quoted (drop (end + 1) text)) (onto_first byte items)) plain in
+    let next : items_of quoted (drop end text) ≡ onto_first byte items = items_of-drop quoted text end byte within read ∙ ap (λ split. before_items split byte items) plain in
     record { items = front.items ∙ ap (onto_items (take end text)) next ∙ onto_items-onto_first (take end text) byte items ∙ ap (λ first. onto_items first items) (ap (λ last. take end text ++ last ∷ []) read ∙ sym (take_more text end 0 within)) }
 
 pub items_of-split : (text : List ℕ) (end byte : ℕ) (quoted : Bool) → end < length text → byte ≡ get_or text end 0 → (byte == 44 && not quoted) ≡ true → IsFront text end quoted → items_of false text ≡ cond (end == length text) (text ∷ []) (take end text ∷ items_of false (drop (end + 1) text))
 unfolding onto_items
 items_of-split text end byte quoted within read splits front =
-    let outside : quoted ≡ false = grind arith in
+    let outside : quoted_after quoted byte ≡ false = grind (arith, nat_tests) in
     let inside : (end == length text) ≡ false = grind (arith, nat_tests) in
     let rest = drop (end + 1) text in
-    let next : items_of quoted (drop end text) ≡ [] ∷ items_of quoted rest = rw read (items_of-drop quoted text end within) ∙ ap (λ split. cond split ([] ∷ items_of quoted rest) (onto_first byte (items_of (quoted_after quoted byte) rest))) splits in
+    let next : items_of quoted (drop end text) ≡ [] ∷ items_of (quoted_after quoted byte) rest = items_of-drop quoted text end byte within read ∙ ap (λ split. before_items split byte (items_of (quoted_after quoted byte) rest)) splits in
     let items : items_of false text ≡ take end text ∷ items_of false rest = front.items ∙ ap (onto_items (take end text)) (next ∙ ap (λ flag. [] ∷ items_of flag rest) outside) ∙ ap (λ first. first ∷ items_of false rest) (append-nil (take end text)) in
     rw inside items
 

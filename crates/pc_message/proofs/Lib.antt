@@ -8,4 +8,5 @@ pub mod Named
 pub mod Openings
 pub mod Outcomes
 pub mod Places
+pub mod Samples
 pub mod Texts

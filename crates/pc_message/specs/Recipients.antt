@@ -1,5 +1,5 @@
 -- The recipients of a message.
-use Rattle.std.specs.Prelude.{◌≡◌, ℕ, ◌-◌, ◌<◌, ◌≤◌, ◌==◌, nat_eq, Bool, false, not, ◌&&◌, ◌||◌, List, [], ◌∷◌, length, take, codes, Option, Some, None, Result, Ok, Err, if◌then◌else◌}
+use Rattle.std.specs.Prelude.{◌≡◌, ℕ, ◌-◌, ◌<◌, ◌≤◌, ◌==◌, nat_eq, Bool, true, false, not, ◌&&◌, ◌||◌, List, [], ◌∷◌, length, take, codes, Option, Some, None, Result, Ok, Err, if◌then◌else◌}
 use Rattle.std.specs.List.{filter, flat_map, find, ends_with, onto_first, position}
 use Rattle.std.specs.Option.{option_map, option_map_or, option_or}
 use Rattle.std.specs.Str.{bytes_eq, str_to_ascii_lowercase}
@@ -13,10 +13,15 @@ use Rattle.pc_message.specs.declared.addresses.RecipientFault.TheVariants.{Unkno
 abbrev pub quoted_after : Bool → ℕ → Bool
 quoted_after quoted byte = if byte == 34 then not quoted else quoted
 
+-- a byte and the items behind it: one item ends at a byte that splits, and any other begins the first of them
+abbrev pub before_items : Bool → ℕ → List (List ℕ) → List (List ℕ)
+before_items true byte items = [] ∷ items
+before_items false byte items = onto_first byte items
+
 -- the parts of a text between commas outside quotes; whether a quote is open where it begins
 unfoldable pub items_of : Bool → List ℕ → List (List ℕ)
 items_of quoted [] = [] ∷ []
-items_of quoted (byte ∷ bytes) = if byte == 44 && not quoted then [] ∷ items_of quoted bytes else onto_first byte (items_of (quoted_after quoted byte) bytes)
+items_of quoted (byte ∷ bytes) = before_items (byte == 44 && not quoted) byte (items_of (quoted_after quoted byte) bytes)
 
 -- what follows the last `<` outside quotes
 unfoldable pub after_opening : Bool → List ℕ → Option (List ℕ)

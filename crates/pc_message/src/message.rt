@@ -1,9 +1,10 @@
 //! A message: a list of lines of bounded size.
 
-ghost use Rattle.std.specs.Prelude.{◌≡◌, ℕ, ◌+◌, ◌<◌, ◌≤◌, List, [], ◌∷◌, ◌++◌, IfOk, MatchResult, IsTrue};
+ghost use Rattle.std.specs.Prelude.{◌≡◌, ℕ, ◌+◌, ◌≤◌, IfOk, IfErr, IsTrue};
 ghost use Rattle.pc_base.specs.Line.{is_line};
 ghost use Rattle.std.specs.Option.{SomeIff};
-ghost use Rattle.pc_message.specs.Message.{size_of};
+ghost use Rattle.std.specs.Result.{OkIff};
+ghost use Rattle.pc_message.specs.Message.{size_of, weight_of};
 
 use pc_base::{Line, LineFault, Lines, Memory};
 use std::alloc::Global;
@@ -30,7 +31,8 @@ impl Model for Message {
 impl Message {
     /// The message of these lines. They are handed back exactly where their size passes 65,536 bytes.
     pub fn of(lines: Lines) -> Result<Message, Lines>
-        ensures { MatchResult result (λ message. (message ≡ lines) × (size_of lines ≤ 65536)) (λ back. (back ≡ lines) × (65536 < size_of lines)) }
+        ensures message { OkIff result (size_of lines ≤ 65536) lines }
+        ensures back { IfErr result (λ back. back ≡ lines) }
     {
         match size_within(lines.as_slice()) {
             Some(bytes) => Ok(Message { lines, bytes }),
@@ -55,7 +57,7 @@ impl Message {
 
     /// What a kept message counts for: its size and 256 bytes more.
     pub fn weight(&self) -> u32
-        ensures weight { result ≡ size_of self.now + 256 }
+        ensures weight { result ≡ weight_of self.now }
         ensures bound { result ≤ 65792 }
     {
         self.size() + 256
