@@ -1,5 +1,5 @@
 -- Texts made of lines have no LF.
-use Rattle.std.proofs.Common.{◌≡◌, ℕ, false, zero, suc, List, [], ◌∷◌, ◌++◌, take, drop, IsTrue, refl, ◌==◌, length, min, ◌≤◌, ◌-◌, sym, subst, arith}
+use Rattle.std.proofs.Common.{◌≡◌, ℕ, false, zero, suc, List, [], ◌∷◌, ◌++◌, take, drop, IsTrue, refl, ◌==◌, length, ◌≤◌, ◌-◌, sym, subst, arith}
 use Rattle.std.proofs.lemmas.List.{length-take}
 use Rattle.std.proofs.lemmas.Bool.Decides.{nat_tests}
 use Rattle.std.proofs.lemmas.Bool.{or_from, or_parts}
@@ -33,9 +33,9 @@ has_feed-trimmed text f =
     let front = drop (prefix_len is_blank text) text in
     has_feed-take (length front - suffix_len is_blank front) front (has_feed-drop (prefix_len is_blank text) text f)
 
--- at most 128 bytes of a text without the blanks at its ends are a line
-pub is_line-cut : (whole text : List ℕ) (n : ℕ) → has_feed whole ≡ false → text ≡ trimmed whole → n ≡ min 128 (length text) → IsTrue (is_line (take n text))
-is_line-cut whole text n f same cut =
+-- a front of a text without the blanks at its ends is a line where it is short
+pub is_line-cut : (whole text : List ℕ) (n : ℕ) → has_feed whole ≡ false → text ≡ trimmed whole → n ≤ 1000 → IsTrue (is_line (take n text))
+is_line-cut whole text n f same few =
     let short : length (take n text) ≤ 1000 = omega (arith, length-take n text) in
     let feedless : has_feed (take n text) ≡ false = has_feed-take n text (subst (λ (bytes : List ℕ). has_feed bytes ≡ false) (sym same) (has_feed-trimmed whole f)) in
     rw feedless (grind (arith, nat_tests))

@@ -2,7 +2,7 @@
 use Rattle.std.proofs.Common.{◌≡◌, List, [], ◌∷◌, ℕ, false, Some, codes, refl}
 use Rattle.pc_base.specs.Recipient.{shown_of}
 use Rattle.pc_message.specs.Descriptor.{first_text}
-use Rattle.pc_message.specs.Header.{header_of, texts_of, field_text}
+use Rattle.pc_message.specs.Header.{texts_of, field_text}
 use Rattle.pc_message.specs.Message.{size_of}
 use Rattle.pc_message.specs.Recipients.{address_of, addresses_of, after_opening, distinct, items_of, unknown_of}
 

@@ -1,5 +1,5 @@
 use super::*;
-use pc_base::{Line, Lines};
+use pc_base::{Line, Lines, Name};
 use std::alloc::Global;
 use std::test::Fail;
 
@@ -21,7 +21,8 @@ fn message_of(alloc: Global, texts: &[&str]) -> Result<Message, Fail> {
 /// The names of a message with a blank behind each, or what is wrong.
 fn told(alloc: Global, texts: &[&str]) -> Result<Vec<u8>, Fail> {
     let mut told = Vec::new(alloc);
-    match recipients(alloc, &message_of(alloc, texts)?) {
+    let found = recipients(alloc, &message_of(alloc, texts)?);
+    match &found {
         Ok(names) => {
             for name in names.as_slice() {
                 told.extend_from_slice(name.bytes())?;
@@ -161,5 +162,26 @@ fn recipients_are_limited(rt: HostRuntime) -> Result<(), Fail> {
         told(rt.alloc(), &texts)?.as_slice(),
         b"unknown: +".as_slice()
     );
+    Ok(())
+}
+
+#[test]
+fn lists_keep_their_items(rt: HostRuntime) -> Result<(), Fail> {
+    let name = Name::read(b"inbox").ok_or("a name")?;
+    let mut letters = Letters::new(rt.alloc());
+    letters.push(name, message_of(rt.alloc(), &["To: ann"])?)?;
+    assert_eq!(rt; letters.as_slice().len(), 1);
+    let mut mails = Mails::new(rt.alloc());
+    mails.push(Mail {
+        number: 1,
+        mailbox: name,
+        message: message_of(rt.alloc(), &[])?,
+    })?;
+    assert_eq!(rt; mails.as_slice().len(), 1);
+    let mut changes = Changes::new(rt.alloc());
+    changes.push(Change::Expunged(3))?;
+    let told = describe(rt.alloc(), &message_of(rt.alloc(), &[])?, 4, 0)?;
+    changes.push(Change::Present(told))?;
+    assert_eq!(rt; changes.as_slice().len(), 2);
     Ok(())
 }
