@@ -12,13 +12,14 @@ recipient-folded : (line : List ℕ) → is_folded line ≡ true → is_recipien
 recipient-folded line folded = or_from (has_name (codes "to:") line) (has_name (codes "cc:") line) (has_name-folded 116 (codes "o:") refl line folded) (has_name-folded 99 (codes "c:") refl line folded)
 
 pub addresses_of-next : (lines : List (List ℕ)) (line : List ℕ) (folded rest : List (List ℕ)) → IsField lines line folded rest → StartWith (addresses_of lines) (field_addresses line folded) (addresses_of rest)
+unfolding addresses_of
 addresses_of-next lines line folded rest field =
     let others = texts_of is_recipient_field (header_of rest) in
     let parts : flat_map text_addresses (cond (is_recipient_field line) (field_text line folded ∷ others) others) ≡ field_addresses line folded ++ addresses_of rest = elim (is_recipient_field line) as (λ (b : Bool). flat_map text_addresses (cond b (field_text line folded ∷ others) others) ≡ cond b (text_addresses (field_text line folded)) [] ++ addresses_of rest) [ true ↦ refl | false ↦ refl ] in
     record { spelled = ap (flat_map text_addresses) (texts_of-next is_recipient_field lines line folded rest recipient-folded field) ∙ parts }
 
 pub addresses_of-end : (lines : List (List ℕ)) → IsHeaderEnd lines → addresses_of lines ≡ []
-unfolding texts_of
+unfolding texts_of addresses_of
 addresses_of-end lines end = ap (λ header. flat_map text_addresses (texts_of is_recipient_field header)) (header_of-end lines end)
 
 pub field_addresses-text : (line text : List ℕ) (folded : List (List ℕ)) → is_recipient_field line ≡ true → text ≡ field_text line folded → text_addresses text ≡ field_addresses line folded

@@ -45,4 +45,5 @@ length-le-size_of [] = omega arith
 length-le-size_of (line ∷ lines) = omega (arith, length-le-size_of lines)
 
 pub descriptor_of-built : (message lines : List (List ℕ)) (uid flags bytes : ℕ) (date from to subject : List ℕ) → lines ≡ message → bytes ≡ size_of message → date ≡ first_text (codes "date:") lines → from ≡ first_text (codes "from:") lines → to ≡ first_text (codes "to:") lines → subject ≡ first_text (codes "subject:") lines → ◌≡◌ {A = Descriptor} (record { uid = uid; flags = flags; bytes = bytes; lines = length lines; date = date; from = from; to = to; subject = subject }) (descriptor_of message uid flags)
+unfolding descriptor_of
 descriptor_of-built message lines uid flags bytes date from to subject same size d f t s = rw (d, f, t, s, size, same) refl

@@ -45,12 +45,12 @@ repeated_names = refl
 
 -- quotes, brackets, an empty item and a name twice
 recipients_of_a_line : addresses_of (codes "To: \"Doe, Ann\" <ANN@PCMAIL>, bob,, bob" ∷ []) ≡ codes "ann" ∷ codes "bob" ∷ codes "bob" ∷ []
-unfolding texts_of field_text items_of address_of after_opening
+unfolding addresses_of texts_of field_text items_of address_of after_opening
 recipients_of_a_line = refl
 
 -- Cc and To as they stand, with a folded line
 mixed_addresses : addresses_of (codes "cc:b" ∷ codes "TO: a,," ∷ codes " b" ∷ []) ≡ codes "b" ∷ codes "a" ∷ codes "b" ∷ []
-unfolding texts_of field_text items_of address_of after_opening
+unfolding addresses_of texts_of field_text items_of address_of after_opening
 mixed_addresses = refl
 
 -- an address that is no name
@@ -58,7 +58,7 @@ abbrev spaced : List (List ℕ)
 spaced = codes "To: ann smith" ∷ []
 
 spaced_unknown : unknown_of (addresses_of spaced) ≡ Some (codes "ann smith")
-unfolding texts_of field_text items_of address_of after_opening
+unfolding addresses_of texts_of field_text items_of address_of after_opening
 spaced_unknown = refl
 
 spaced_shown : shown_of (codes "ann smith") ≡ codes "ann?smith"
@@ -66,7 +66,7 @@ spaced_shown = refl
 
 -- no recipient at all
 nobody_unknown : unknown_of (addresses_of (codes "Subject: x" ∷ [] ∷ codes "To: ann" ∷ [])) ≡ Some []
-unfolding texts_of field_text items_of address_of after_opening
+unfolding addresses_of texts_of field_text items_of address_of after_opening
 nobody_unknown = refl
 
 nobody_shown : shown_of [] ≡ codes "-"

@@ -10,7 +10,7 @@ abbrev pub first_text : List ℕ → List (List ℕ) → List ℕ
 first_text name message = take 128 (slice_index_or (texts_of (has_name name) (header_of message)) 0 [])
 
 -- the descriptor of a message with this uid and these flags
-abbrev pub descriptor_of : List (List ℕ) → ℕ → ℕ → Descriptor
+unfoldable pub descriptor_of : List (List ℕ) → ℕ → ℕ → Descriptor
 descriptor_of message uid flags = record {
   uid = uid;
   flags = flags;

@@ -54,7 +54,7 @@ abbrev pub is_recipient_field : List ℕ → Bool
 is_recipient_field line = has_name (codes "to:") line || has_name (codes "cc:") line
 
 -- the addresses of a message, in order
-abbrev pub addresses_of : List (List ℕ) → List (List ℕ)
+unfoldable pub addresses_of : List (List ℕ) → List (List ℕ)
 addresses_of message = flat_map text_addresses (texts_of is_recipient_field (header_of message))
 
 -- each of the texts once, at its first place

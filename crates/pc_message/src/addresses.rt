@@ -45,7 +45,8 @@ pub fn recipients(alloc: Global, message: &Message) -> Result<Names, RecipientFa
 
 /// Adds the names of a field, where it is a To or a Cc.
 fn add_field(alloc: Global, names: &mut Names, field: &Field) -> Result<(), RecipientFault>
-    ensures { AddsOutcome names.old (field_addresses field.now.line.now field.now.folded.now) names.new result }
+    ensures { let addresses = field_addresses field.now.line.now field.now.folded.now in
+        AddsOutcome names.old addresses names.new result }
 {
     if !is_recipient_field(field.line.bytes()) {
         return Ok(());
@@ -80,7 +81,10 @@ fn add_text(alloc: Global, names: &mut Names, text: &[u8]) -> Result<(), Recipie
 /// Where the first item of a text ends: at the first comma outside quotes, or at the text's end.
 fn item_end(text: &[u8]) -> usize
     ensures bound { result ≤ length text.now }
-    ensures split { items_of false text.now ≡ (if result == length text.now then text.now ∷ [] else take result text.now ∷ items_of false (drop (result + 1) text.now)) }
+    ensures split { items_of false text.now
+        ≡ (if result == length text.now
+        then text.now ∷ []
+        else take result text.now ∷ items_of false (drop (result + 1) text.now)) }
 {
     let mut quoted = false;
     for (end, byte) in text.iter().enumerate() {

@@ -76,7 +76,9 @@ fn set_first(
     name: &[u8],
     field: &Field,
 ) -> Result<(), Memory>
-    ensures { OnOk result (text.new ≡ first_kept text.old (named name.now field.now.line.now) (take 128 (field_text field.now.line.now field.now.folded.now))) }
+    ensures { let whole = field_text field.now.line.now field.now.folded.now in
+        let has = named name.now field.now.line.now in
+        OnOk result (text.new ≡ first_kept text.old has (take 128 whole)) }
 {
     if text.is_some() {
         return Ok(());
@@ -90,7 +92,8 @@ fn set_first(
 
 /// The field's text, cut at 128 bytes.
 fn cut_text(alloc: Global, field: &Field) -> Result<Line, Memory>
-    ensures { IfOk result (λ line. line ≡ take 128 (field_text field.now.line.now field.now.folded.now)) }
+    ensures { let whole = field_text field.now.line.now field.now.folded.now in
+        IfOk result (λ line. line ≡ take 128 whole) }
 {
     let whole = unfolded(alloc, field)?;
     let text = trimmed(&whole);

@@ -18,7 +18,9 @@ pub struct Field<'a> {
 
 /// The first line of a header with what is folded under it; none at the header's end.
 pub fn next_field(lines: &[Line]) -> Option<Field<'_>>
-    ensures { MatchOption result (IsHeaderEnd lines.now) (λ field. IsField lines.now field.line.now field.folded.now field.rest.now) }
+    ensures { MatchOption result
+        (IsHeaderEnd lines.now)
+        (λ field. IsField lines.now field.line.now field.folded.now field.rest.now) }
 {
     let [line, after @ ..] = lines else {
         return None;
@@ -74,7 +76,8 @@ pub fn has_name(name: &[u8], line: &[u8]) -> bool
 
 /// What follows the colon of a field, with its folded lines.
 pub fn unfolded(alloc: Global, field: &Field) -> Result<Vec<u8>, Memory>
-    ensures text { IfOk result (λ text. text.items ≡ after_first (λ byte. byte == 58) field.now.line.now ++ concat field.now.folded.now) }
+    ensures text { IfOk result (λ text. text.items
+        ≡ after_first (λ byte. byte == 58) field.now.line.now ++ concat field.now.folded.now) }
     ensures whole { IfOk result (λ text. has_feed text.items ≡ false) }
 {
     let mut text = Vec::from_slice(alloc, after_colon(field.line.bytes()))?;
