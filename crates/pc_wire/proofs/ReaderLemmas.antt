@@ -384,9 +384,9 @@ pub TakesLine-leads : (line before after ahead left : List ℕ) (taken : TakesLi
 TakesLine-leads line before after ahead left taken e = elim taken.spells [
   | inl spelled ↦ lines_of-spelling taken.spelling line ahead spelled
   | inr last ↦ (
-    let none : ahead ≡ [] = nil_from_length ahead (omega (arith, ap length e, ap length last.1, length-append ahead left)) in
-    ap (λ bytes. lines_of (taken.spelling ++ bytes)) none ∙ ap lines_of (append-nil taken.spelling ∙ last.0) ∙ lines_of-last line last.2 last.3 ∙ ap (λ bytes. line ∷ lines_of bytes) (sym none)
-  )
+      let none : ahead ≡ [] = nil_from_length ahead (omega (arith, ap length e, ap length last.1, length-append ahead left)) in
+      ap (λ bytes. lines_of (taken.spelling ++ bytes)) none ∙ ap lines_of (append-nil taken.spelling ∙ last.0) ∙ lines_of-last line last.2 last.3 ∙ ap (λ bytes. line ∷ lines_of bytes) (sym none)
+      )
 ]
 
 pub TakesLine-first : (line before after : List ℕ) → TakesLine line before after → lines_of before ≡ line ∷ lines_of after

@@ -1,9 +1,9 @@
 //! Lines, words, and lines that come in pieces.
 #![tactic(auto)]
 
-mod fetched;
 mod body_feed;
 pub mod body_laws;
+mod fetched;
 pub mod laws;
 mod line_feed;
 mod line_reader;
@@ -13,8 +13,8 @@ pub mod reader_laws;
 mod words;
 mod writing;
 
-pub use fetched::Fetched;
 pub use body_feed::{BodyFeed, BodyStep};
+pub use fetched::Fetched;
 pub use line_feed::{LineFeed, Next};
 pub use line_reader::LineReader;
 pub use words::{next_word, without_spaces};
