@@ -1,5 +1,6 @@
 pub mod Asking
 pub mod OneEvent
+pub mod OneOutcome
 pub mod Playing
 pub mod Stopped
 pub mod Turns

@@ -1,0 +1,24 @@
+//! What holds of all scripts: each law is what a function with nothing to do ensures.
+
+ghost use Rattle.std.specs.Prelude.{◌≡◌, ℕ, List};
+ghost use Rattle.pc_world.specs.Account.{Account};
+ghost use Rattle.pc_world.specs.Events.{IsEvent};
+ghost use Rattle.pc_world.specs.Runs.{IsOfForm, IsRefused, IsRun};
+ghost use Rattle.pc_world.specs.Steps.{Step};
+ghost use Rattle.pc_world.specs.declared.event.Event.{Event};
+
+use pc_request::laws::{one_request_a_line, requests_have_no_fault};
+
+/// Lines are at most one event.
+pub fn one_event_a_line()
+    ensures { (lines : List (List ℕ)) (first second : Event) → IsEvent lines first → IsEvent lines second → first ≡ second }
+{
+    one_request_a_line();
+    requests_have_no_fault();
+}
+
+/// An event prints one thing in a world, and leaves one world.
+pub fn one_step_an_event()
+    ensures { (old : List Account) (event : Event) (p q : List (List ℕ)) (new other : List Account)
+        → Step old event p new → Step old event q other → (p ≡ q) × (new ≡ other) }
+{}
