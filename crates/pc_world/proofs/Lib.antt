@@ -1,6 +1,7 @@
 pub mod Asking
 pub mod OneEvent
 pub mod OneOutcome
+pub mod OneRun
 pub mod Playing
 pub mod Stopped
 pub mod Turns

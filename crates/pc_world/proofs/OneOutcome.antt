@@ -1,5 +1,5 @@
 -- A script has one outcome: its events, their steps and the chain of them are determined.
-use Rattle.std.proofs.Common.{◌≡◌, ℕ, ◌<◌, ◌≤◌, List, [], ◌∷◌, ◌++◌, length, Option, Some, None, MatchOption, refl, sym, ap, ◌∙◌, subst, arith, append_assoc, length-append}
+use Rattle.std.proofs.Common.{◌≡◌, ℕ, List, [], ◌∷◌, Option, Some, None, MatchOption, refl, sym, ap, ◌∙◌, arith}
 use Rattle.pc_request.specs.Fault.{fault_of}
 use Rattle.pc_request.specs.Request.{IsRequest}
 use Rattle.pc_request.specs.declared.request.Request.{Request}

@@ -22,3 +22,32 @@ pub fn one_step_an_event()
     ensures { (old : List Account) (event : Event) (p q : List (List ℕ)) (new other : List Account)
         → Step old event p new → Step old event q other → (p ≡ q) × (new ≡ other) }
 {}
+
+/// A script has at most one transcript.
+pub fn one_transcript()
+    ensures { (script t u : List ℕ) → IsRun script t → IsRun script u → t ≡ u }
+{
+    one_event_a_line();
+    one_step_an_event();
+}
+
+/// A script that has a run isn't refused.
+pub fn refused_or_run()
+    ensures { (script t u : List ℕ) (n : ℕ) → IsRun script t → IsRefused script n u → ⊥ }
+{
+    one_event_a_line();
+    one_step_an_event();
+}
+
+/// A script is refused at one line at most, and then with one transcript.
+pub fn refused_once()
+    ensures { (script t u : List ℕ) (n m : ℕ) → IsRefused script n t → IsRefused script m u → (n ≡ m) × (t ≡ u) }
+{
+    one_event_a_line();
+    one_step_an_event();
+}
+
+/// A script of the form isn't refused.
+pub fn forms_have_runs()
+    ensures { (script : List ℕ) (number : ℕ) (text : List ℕ) → IsOfForm script → IsRefused script number text → ⊥ }
+{}
