@@ -1,4 +1,5 @@
 pub mod Asking
+pub mod OfForm
 pub mod OneEvent
 pub mod OneOutcome
 pub mod OneRun

@@ -2,7 +2,7 @@
 use Rattle.std.proofs.Common.{◌≡◌, ℕ, ◌<◌, List, [], ◌∷◌, ◌++◌, length, sym, ap, ◌∙◌, subst, arith, append_assoc, length-append}
 use Rattle.pc_world.specs.Account.{Account}
 use Rattle.pc_world.specs.Events.{IsEvent}
-use Rattle.pc_world.specs.Runs.{Plays, Chain, Begins, GoesOn, IsRun, IsRefused, IsOfForm, lines_in, text_of}
+use Rattle.pc_world.specs.Runs.{Plays, Chain, Begins, GoesOn, IsRun, IsRefused, lines_in, text_of}
 use Rattle.pc_world.specs.Steps.{Step}
 use Rattle.pc_world.specs.declared.event.Event.{Event}
 
@@ -136,8 +136,3 @@ pub IsRefused-once : EventOnce → StepOnce → (script t u : List ℕ) (n m : �
 IsRefused-once event_once step_once script t u n m one other =
     refusals_meet script t u n m one other
     (begun event_once step_once script (one.line ∷ one.rest) (other.line ∷ other.rest) one.printed other.printed one.last other.last one.begins other.begins)
-
--- a script of the form is refused nowhere
-pub not_refused : (script : List ℕ) (number : ℕ) (text : List ℕ) → IsOfForm script → IsRefused script number text → ⊥
-not_refused script number text form refusal =
-    refusal.stops (omega (arith, form.few, refusal.number_is)) (form.goes_on refusal.line refusal.rest refusal.printed refusal.last refusal.begins)

@@ -47,7 +47,8 @@ pub fn refused_once()
     one_step_an_event();
 }
 
-/// A script of the form isn't refused.
+/// A script of the form has a run, and no refusal.
 pub fn forms_have_runs()
-    ensures { (script : List ℕ) (number : ℕ) (text : List ℕ) → IsOfForm script → IsRefused script number text → ⊥ }
+    ensures run { (script : List ℕ) → IsOfForm script → ((t : List ℕ) × IsRun script t) }
+    ensures no_refusal { (script : List ℕ) (number : ℕ) (text : List ℕ) → IsOfForm script → IsRefused script number text → ⊥ }
 {}
