@@ -4,5 +4,6 @@ pub mod OneEvent
 pub mod OneOutcome
 pub mod OneRun
 pub mod Playing
+mod Samples
 pub mod Stopped
 pub mod Turns

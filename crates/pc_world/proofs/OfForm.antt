@@ -28,7 +28,7 @@ Chain-push old (earlier ∷ events) printed middle event first new chain plays =
     (shown, (next, (others ++ first, (ap (λ (lines : List (List ℕ)). lines ++ first) rest.0 ∙ append_assoc shown others first, rest.1, Chain-push next events others middle event first new rest.2 plays))))
 
 -- the event that lines begin with is their first line
-plays_first : (world : List Account) (line : List ℕ) (rest event others printed : List (List ℕ)) (next : List Account)
+pub plays_first : (world : List Account) (line : List ℕ) (rest event others printed : List (List ℕ)) (next : List Account)
     → line ∷ rest ≡ event ++ others → Plays world event printed next → Plays world (line ∷ []) printed next
 plays_first world line rest [] others printed next split plays = absurd plays.is_event
 plays_first world line rest (first ∷ second ∷ more) others printed next split plays = absurd plays.is_event

@@ -2,7 +2,7 @@
 use Rattle.std.proofs.Common.{◌≡◌, ℕ, ◌<◌, List, [], ◌∷◌, ◌++◌, length, sym, ap, ◌∙◌, subst, arith, append_assoc, length-append}
 use Rattle.pc_world.specs.Account.{Account}
 use Rattle.pc_world.specs.Events.{IsEvent}
-use Rattle.pc_world.specs.Runs.{Plays, Chain, Begins, GoesOn, IsRun, IsRefused, lines_in, text_of}
+use Rattle.pc_world.specs.Runs.{Plays, Chain, Begins, GoesOn, IsRun, IsRefused, IsOfForm, lines_in, text_of}
 use Rattle.pc_world.specs.Steps.{Step}
 use Rattle.pc_world.specs.declared.event.Event.{Event}
 
@@ -136,3 +136,18 @@ pub IsRefused-once : EventOnce → StepOnce → (script t u : List ℕ) (n m : �
 IsRefused-once event_once step_once script t u n m one other =
     refusals_meet script t u n m one other
     (begun event_once step_once script (one.line ∷ one.rest) (other.line ∷ other.rest) one.printed other.printed one.last other.last one.begins other.begins)
+
+-- behind a beginning of a script that has a run, the world goes on with what is left
+goes_on_with : (last other : List Account) (line : List ℕ) (rest shown printed : List (List ℕ))
+    → Compared last other (line ∷ rest) [] shown printed → GoesOn last (line ∷ rest)
+goes_on_with last other line rest shown printed (level lines text) = cc
+goes_on_with last other line rest shown printed (first_goes_on more) = more.goes_on
+goes_on_with last other line rest shown printed (second_goes_on more) = absurd (omega (arith, more.shorter))
+
+pub IsOfForm-run : EventOnce → StepOnce → (script t : List ℕ) → IsRun script t → IsOfForm script
+IsOfForm-run event_once step_once script t run = record {
+  few = omega (arith, run.run.few, ap length run.run.split, length-append (lines_in run.run.events) []);
+  goes_on = λ line rest shown last begins.
+    goes_on_with last run.last line rest shown run.printed
+      (begun event_once step_once script (line ∷ rest) [] shown run.printed last run.last begins run.run);
+}

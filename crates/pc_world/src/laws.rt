@@ -52,3 +52,11 @@ pub fn forms_have_runs()
     ensures run { (script : List ℕ) → IsOfForm script → ((t : List ℕ) × IsRun script t) }
     ensures no_refusal { (script : List ℕ) (number : ℕ) (text : List ℕ) → IsOfForm script → IsRefused script number text → ⊥ }
 {}
+
+/// A script that has a run has the form.
+pub fn runs_have_the_form()
+    ensures { (script t : List ℕ) → IsRun script t → IsOfForm script }
+{
+    one_event_a_line();
+    one_step_an_event();
+}
