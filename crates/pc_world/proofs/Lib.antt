@@ -1,8 +1,9 @@
 pub mod Asking
+pub mod Chains
 pub mod OfForm
 pub mod OneEvent
+pub mod OneStep
 pub mod OneOutcome
-pub mod OneRun
 pub mod Playing
 mod Samples
 pub mod Stopped

@@ -1,22 +1,20 @@
 -- The definitions at scripts worked out by hand.
-use Rattle.std.proofs.Common.{◌≡◌, ℕ, List, [], ◌∷◌, ◌++◌, codes, replicate, None, refl, subst, lit≤, lit<}
+use Rattle.std.proofs.Common.{◌≡◌, ℕ, List, [], ◌∷◌, ◌++◌, codes, replicate, refl, subst, lit≤, lit<}
 use Rattle.std.specs.Fmt.{digits}
 use Rattle.pc_base.specs.Refusal.{head_of}
-use Rattle.pc_wire.specs.Lines.{lines_of}
 use Rattle.pc_request.specs.Argument.{IsSpelled}
 use Rattle.pc_request.specs.Fault.{kinds_of, fault_of_word}
 use Rattle.pc_request.specs.Operation.{operations, word_of}
 use Rattle.pc_request.specs.Request.{call_of}
 use Rattle.pc_request.specs.declared.request.Request.TheVariants as request
 use Rattle.pc_request.specs.declared.request.RequestFault.TheVariants.{BadName}
-use Rattle.pc_account.specs.History.{history_of}
 use Rattle.pc_account.specs.declared.entry.Entry.TheVariants.{MakeMailbox}
-use Rattle.pc_world.proofs.OfForm.{plays_first}
+use Rattle.pc_world.proofs.Chains.{plays_first}
 use Rattle.pc_world.specs.Account.{Account}
 use Rattle.pc_world.specs.Events.{IsEvent}
-use Rattle.pc_world.specs.Repository.{reply_to, reply_to_request}
-use Rattle.pc_world.specs.Runs.{Plays, Chain, Begins, GoesOn, IsRun, IsRefused}
-use Rattle.pc_world.specs.Steps.{Step, enrolled, entries_of}
+use Rattle.pc_world.specs.Repository.{reply_to_request}
+use Rattle.pc_world.specs.Runs.{Plays, Chain, GoesOn, IsRun, IsRefused}
+use Rattle.pc_world.specs.Steps.{Step, enrolled}
 use Rattle.pc_world.specs.declared.event.Asked.TheVariants.{TooLong, Faulty, Read}
 use Rattle.pc_world.specs.declared.event.Event.{Event}
 use Rattle.pc_world.specs.declared.event.Event.TheVariants.{Silent, User, Ask}
@@ -111,12 +109,59 @@ plays_list = record {
 }
 
 chain_of_five : Chain [] events printed made_world
-chain_of_five =
-    (_, (_, (_, (refl, plays_user,
-    (_, (_, (_, (refl, plays_mailbox,
-    (_, (_, (_, (refl, plays_again,
-    (_, (_, (_, (refl, plays_bad_name,
-    (_, (_, (_, (refl, plays_list, (refl, refl)))))))))))))))))))))
+chain_of_five = (
+  _,
+  (
+    _,
+    (
+      _,
+      (
+        refl,
+        plays_user,
+        (
+          _,
+          (
+            _,
+            (
+              _,
+              (
+                refl,
+                plays_mailbox,
+                (
+                  _,
+                  (
+                    _,
+                    (
+                      _,
+                      (
+                        refl,
+                        plays_again,
+                        (
+                          _,
+                          (
+                            _,
+                            (
+                              _,
+                              (
+                                refl,
+                                plays_bad_name,
+                                (_, (_, (_, (refl, plays_list, (refl, refl))))),
+                              ),
+                            ),
+                          ),
+                        ),
+                      ),
+                    ),
+                  ),
+                ),
+              ),
+            ),
+          ),
+        ),
+      ),
+    ),
+  ),
+)
 
 five_lines : IsRun script transcript
 five_lines = record {
@@ -140,7 +185,7 @@ no_such_user (Ask user asked) shown new is step =
 stops_at_bob : (rest : List (List ℕ)) → GoesOn enrolled_world (codes "ask bob HELP" ∷ rest) → ⊥
 stops_at_bob rest goes =
     let plays = plays_first enrolled_world (codes "ask bob HELP") rest goes.event goes.others goes.printed goes.next goes.split goes.plays in
-    no_such_user plays.event goes.printed goes.next plays.is_event plays.step
+    no_such_user plays.1.event goes.printed goes.next plays.1.is_event plays.1.step
 
 chain_of_one : Chain [] ((codes "user ann sesame" ∷ []) ∷ []) (codes "user ann: 200 Ok" ∷ []) enrolled_world
 chain_of_one = (_, (_, (_, (refl, plays_user, (refl, refl)))))

@@ -1,4 +1,4 @@
-use Rattle.pc_world.proofs.OneOutcome.{event_once}
+use Rattle.pc_world.proofs.OneStep.{event_once}
 use Rattle.pc_world.proofs.laws.one_event_a_line.Goals as goal
 
 pub returns : goal.returns

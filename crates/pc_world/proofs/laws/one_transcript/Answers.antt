@@ -1,4 +1,4 @@
-use Rattle.pc_world.proofs.OneRun.{IsRun-once}
+use Rattle.pc_world.proofs.OneOutcome.{IsRun-once}
 use Rattle.pc_world.proofs.laws.one_transcript.Goals as goal
 
 pub returns : goal.returns

@@ -1,4 +1,4 @@
-use Rattle.pc_world.proofs.OneRun.{IsRefused-once}
+use Rattle.pc_world.proofs.OneOutcome.{IsRefused-once}
 use Rattle.pc_world.proofs.laws.refused_once.Goals as goal
 
 pub returns : goal.returns

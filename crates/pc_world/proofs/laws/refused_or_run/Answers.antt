@@ -1,4 +1,4 @@
-use Rattle.pc_world.proofs.OneRun.{refused_or_run}
+use Rattle.pc_world.proofs.OneOutcome.{refused_or_run}
 use Rattle.pc_world.proofs.laws.refused_or_run.Goals as goal
 
 pub returns : goal.returns

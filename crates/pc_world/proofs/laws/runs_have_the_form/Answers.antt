@@ -1,4 +1,4 @@
-use Rattle.pc_world.proofs.OneRun.{IsOfForm-run}
+use Rattle.pc_world.proofs.OneOutcome.{IsOfForm-run}
 use Rattle.pc_world.proofs.laws.runs_have_the_form.Goals as goal
 
 pub returns : goal.returns
