@@ -1,5 +1,10 @@
 pub mod Asking
+pub mod Chains
+pub mod OfForm
 pub mod OneEvent
+pub mod OneStep
+pub mod OneOutcome
 pub mod Playing
+mod Samples
 pub mod Stopped
 pub mod Turns
