@@ -13,7 +13,7 @@ use Rattle.pc_wire.proofs.ReaderLemmas.{TakesFront-none, TakesLine-leads, TakesL
 use Rattle.pc_world.proofs.Stopped.{stops_bad, long_none}
 use Rattle.pc_world.specs.Account.{Account}
 use Rattle.pc_world.specs.Runs.{Plays, Chain, Begins, GoesOn, IsRun, IsOfForm, IsRefused, lines_in, text_of, ended, most_lines}
-use Rattle.pc_world.specs.Replay.{Stops, Finishes, Sends, Writes, WritesFront, Ends, Completes, IsComplete}
+use Rattle.pc_world.specs.Replay.{Stops, Finishes, Sends, Writes, WritesFront, Ends, Completes, IsComplete, Refuses, Tells}
 use Rattle.pc_world.specs.declared.replaying.ReplayEnd.{ReplayEnd}
 use Rattle.pc_world.specs.declared.replaying.ReplayEnd.TheVariants.{Done, Refused, ReadFault, WriteFault, Memory}
 
@@ -348,3 +348,16 @@ Completes-ends (Some bytes) left before after ReadRose WriteRose Memory ends rea
 Completes-ends (Some bytes) left before after ReadRose WriteRose (Refused number) ends read write = λ form still_read still_written. not_refused bytes ends.0 number form ends.1.1
 Completes-ends (Some bytes) left before after ReadRose WriteRose ReadFault ends read write = λ form still_read still_written. still_read (read refl)
 Completes-ends (Some bytes) left before after ReadRose WriteRose WriteFault ends read write = λ form still_read still_written. still_written (write refl)
+
+pub Refuses-ends : (script left before after : Option (List ℕ)) (ReadRose WriteRose : Type 0) (end : ReplayEnd)
+    → ((bytes t u : List ℕ) (n : ℕ) → IsRun bytes t → IsRefused bytes n u → ⊥)
+    → ((bytes t u : List ℕ) (n m : ℕ) → IsRefused bytes n t → IsRefused bytes m u → (n ≡ m) × (t ≡ u))
+    → Ends script left before after end → (end ≡ ReadFault → ReadRose) → (end ≡ WriteFault → WriteRose) → Refuses script ReadRose WriteRose end
+Refuses-ends None left before after ReadRose WriteRose end run_or_refused once ends read write = tt
+Refuses-ends (Some bytes) left before after ReadRose WriteRose Done run_or_refused once ends read write =
+    λ number text refusal still_read still_written. run_or_refused bytes ends.1.0 text number ends.1.1.1 refusal
+Refuses-ends (Some bytes) left before after ReadRose WriteRose Memory run_or_refused once ends read write = λ number text refusal still_read still_written. tt
+Refuses-ends (Some bytes) left before after ReadRose WriteRose (Refused line) run_or_refused once ends read write =
+    λ number text refusal still_read still_written. (once bytes ends.0 text line number ends.1.1 refusal).0
+Refuses-ends (Some bytes) left before after ReadRose WriteRose ReadFault run_or_refused once ends read write = λ number text refusal still_read still_written. still_read (read refl)
+Refuses-ends (Some bytes) left before after ReadRose WriteRose WriteFault run_or_refused once ends read write = λ number text refusal still_read still_written. still_written (write refl)

@@ -73,3 +73,16 @@ IsComplete WriteFault = ⊥
 -- a script of the form is played to its end where no count rises
 abbrev pub Completes : Option (List ℕ) → Type 0 → Type 0 → ReplayEnd → Type 0
 Completes script ReadRose WriteRose end = IfSome script (λ bytes. IsOfForm bytes → (ReadRose → ⊥) → (WriteRose → ⊥) → IsComplete end)
+
+-- this refusal is told, or memory was wanted
+abbrev pub Tells : ℕ → ReplayEnd → Type 0
+Tells number (Refused line) = line ≡ number
+Tells number Memory = Unit {0}
+Tells number Done = ⊥
+Tells number ReadFault = ⊥
+Tells number WriteFault = ⊥
+
+-- a script that is refused at a line is told to be refused at that line where no count rises
+abbrev pub Refuses : Option (List ℕ) → Type 0 → Type 0 → ReplayEnd → Type 0
+Refuses script ReadRose WriteRose end =
+    IfSome script (λ bytes. (number : ℕ) (text : List ℕ) → IsRefused bytes number text → (ReadRose → ⊥) → (WriteRose → ⊥) → Tells number end)

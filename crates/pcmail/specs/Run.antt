@@ -1,6 +1,6 @@
 -- How a run ends, by its words, what it read and what it wrote.
 use Rattle.std.specs.Prelude.{◌≡◌, ℕ, List, [], ◌∷◌, codes, Option, Some, None, MatchOption}
-use Rattle.pc_world.specs.Replay.{Ends, Completes}
+use Rattle.pc_world.specs.Replay.{Ends, Completes, Refuses}
 use Rattle.pc_world.specs.declared.replaying.ReplayEnd.{ReplayEnd}
 use Rattle.pc_world.specs.declared.replaying.ReplayEnd.TheVariants as replay
 use Rattle.pcmail.specs.declared.status.Status.{Status}
@@ -27,3 +27,7 @@ RunEnds script left before after status =
 -- a script of the form is played to its end where no count rises
 abbrev pub RunCompletes : Option (List ℕ) → Type 0 → Type 0 → Status → Type 0
 RunCompletes script ReadRose WriteRose status = MatchOption (end_of status) ⊥ (Completes script ReadRose WriteRose)
+
+-- a script that is refused at a line is told to be refused at that line where no count rises
+abbrev pub RunRefuses : Option (List ℕ) → Type 0 → Type 0 → Status → Type 0
+RunRefuses script ReadRose WriteRose status = MatchOption (end_of status) ⊥ (Refuses script ReadRose WriteRose)

@@ -2,7 +2,7 @@
 
 ghost use Rattle.std.specs.Prelude.{◌≡◌, ◌≤◌, ◌↔◌, map, codes, Some, IsTrue, string_bytes};
 ghost use Rattle.pc_base.specs.Stream.{Rose};
-ghost use Rattle.pcmail.specs.Run.{IsReplay, RunEnds, RunCompletes, end_of};
+ghost use Rattle.pcmail.specs.Run.{IsReplay, RunEnds, RunCompletes, RunRefuses, end_of};
 
 use crate::status::Status;
 use pc_base::{Sink, Source};
@@ -28,8 +28,9 @@ pub fn run<S: Source, K: Sink>(
     ensures read { result ≡ Status.ReadFault → Rose (S.faults input.old) (S.faults input.new) }
     ensures write { result ≡ Status.WriteFault → Rose (K.faults output.old) (K.faults output.new) }
 
-    // What succeeds.
+    // What succeeds, and which refusal comes.
     ensures complete { IsReplay (map string_bytes words.now) → RunCompletes (S.left input.old) (Rose (S.faults input.old) (S.faults input.new)) (Rose (K.faults output.old) (K.faults output.new)) result }
+    ensures refuses { IsReplay (map string_bytes words.now) → RunRefuses (S.left input.old) (Rose (S.faults input.old) (S.faults input.new)) (Rose (K.faults output.old) (K.faults output.new)) result }
 
     ensures input_count { S.faults input.old ≤ S.faults input.new }
     ensures output_count { K.faults output.old ≤ K.faults output.new }
