@@ -3,7 +3,6 @@
 use crate::{BodyFeed, BodyStep, LineFeed, Next, write_body};
 use pc_base::{Failed, Line, Lines, Memory, MemorySink};
 use std::alloc::Global;
-use std::process::Abort;
 use std::test::Fail;
 
 /// Lines of content, and how they are sent.
