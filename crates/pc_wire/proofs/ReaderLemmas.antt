@@ -1,5 +1,5 @@
 -- A line reader: what is read ahead, and what a line that goes on leaves in its feed.
-use Rattle.std.proofs.Common.{◌≡◌, ℕ, zero, suc, ◌+◌, ◌-◌, ◌^◌, ◌<◌, ◌≤◌, Bool, true, false, eqb, ltb, ◌||◌, List, [], ◌∷◌, ◌++◌, length, take, drop, slice_range, Option, Some, None, Ok, Err, sym, refl, ap, subst, ◌∙◌, inl, inr, arith, append_assoc, append-nil, length-append, length-take, length-drop}
+use Rattle.std.proofs.Common.{◌≡◌, ℕ, zero, suc, ◌+◌, ◌-◌, ◌<◌, ◌≤◌, Bool, true, false, eqb, ltb, ◌||◌, List, [], ◌∷◌, ◌++◌, length, take, drop, slice_range, Option, Some, None, Ok, Err, sym, refl, ap, subst, ◌∙◌, inl, inr, arith, append_assoc, append-nil, length-append, length-take, length-drop}
 use Rattle.std.specs.Io.KnownBytes.{prepend_known, Keeps, Consumes, IsAtEnd}
 use Rattle.std.proofs.KnownBytes.{Consumes-nil, Consumes-trans, Consumes-kept, Keeps-refl, prepend_known-end}
 use Rattle.std.specs.Io.BufRead.{take_through}
@@ -384,9 +384,9 @@ pub TakesLine-leads : (line before after ahead left : List ℕ) (taken : TakesLi
 TakesLine-leads line before after ahead left taken e = elim taken.spells [
   | inl spelled ↦ lines_of-spelling taken.spelling line ahead spelled
   | inr last ↦ (
-    let none : ahead ≡ [] = nil_from_length ahead (omega (arith, ap length e, ap length last.1, length-append ahead left)) in
-    ap (λ bytes. lines_of (taken.spelling ++ bytes)) none ∙ ap lines_of (append-nil taken.spelling ∙ last.0) ∙ lines_of-last line last.2 last.3 ∙ ap (λ bytes. line ∷ lines_of bytes) (sym none)
-  )
+      let none : ahead ≡ [] = nil_from_length ahead (omega (arith, ap length e, ap length last.1, length-append ahead left)) in
+      ap (λ bytes. lines_of (taken.spelling ++ bytes)) none ∙ ap lines_of (append-nil taken.spelling ∙ last.0) ∙ lines_of-last line last.2 last.3 ∙ ap (λ bytes. line ∷ lines_of bytes) (sym none)
+      )
 ]
 
 pub TakesLine-first : (line before after : List ℕ) → TakesLine line before after → lines_of before ≡ line ∷ lines_of after
