@@ -44,7 +44,7 @@ TakesFront before after = IfTold before after (λ bytes rest. (read : List ℕ) 
 abbrev pub IsLastLine : List ℕ → List ℕ → List ℕ → Type 0
 IsLastLine spelling line after = (spelling ≡ line) × (after ≡ []) × (has_feed line ≡ false) × (0 < length line)
 
--- a line was taken from the front of the bytes
+-- the bytes before are the line's spelling and then the bytes after
 pub record TakesLine (line before after : List ℕ) : Type 0 where
   pub spelling : List ℕ
   pub split : before ≡ spelling ++ after

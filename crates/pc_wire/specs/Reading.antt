@@ -1,5 +1,5 @@
 -- The parts of a line reader: what its feed holds, and how bytes reach it.
-use Rattle.std.specs.Prelude.{◌≡◌, ℕ, ◌<◌, Bool, true, false, List, [], ◌∷◌, ◌++◌, length, Option, Result, Ok, Err}
+use Rattle.std.specs.Prelude.{◌≡◌, ℕ, ◌<◌, Bool, true, false, List, [], ◌++◌, length, Option, Result, Ok, Err}
 use Rattle.std.specs.Io.KnownBytes.{Consumes, Keeps, IsAtEnd}
 use Rattle.pc_base.specs.declared.failure.Failed.{Failed}
 use Rattle.pc_wire.specs.Lines.{has_feed, without_return}

@@ -4,7 +4,8 @@ ghost use Rattle.std.specs.Prelude.{◌≡◌, ℕ, List, ◌∷◌, ◌++◌};
 ghost use Rattle.pc_wire.specs.Reader.{TakesLine, LosesExcess, KeepsLines};
 ghost use Rattle.pc_wire.specs.Lines.{lines_of};
 
-/// What a failure loses changes no line that the limit lets pass, and none is gone.
+/// What is lost of a line that hasn't ended changes no line that the limit lets pass, and none is
+/// gone.
 pub fn excess_is_no_line()
     ensures { (limit : ℕ) (old new : List ℕ) → LosesExcess limit old new → KeepsLines limit old new }
 {}
