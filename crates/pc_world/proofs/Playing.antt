@@ -68,11 +68,11 @@ HasPlayed-more events bytes rest rest' line played taken = record {
   played = played.played ++ taken.spelling;
   split = played.split ∙ ap (λ (xs : List ℕ). played.played ++ xs) taken.split ∙ sym (append_assoc played.played taken.spelling rest');
   leads = λ ahead left split.
-    ap lines_of (append_assoc played.played taken.spelling ahead)
-    ∙ played.leads (taken.spelling ++ ahead) left (taken.split ∙ ap (λ (xs : List ℕ). taken.spelling ++ xs) split ∙ sym (append_assoc taken.spelling ahead left))
-    ∙ ap (λ (lines : List (List ℕ)). lines_in events ++ lines) (TakesLine-leads line rest rest' ahead left taken split)
-    ∙ sym (append_assoc (lines_in events) (line ∷ []) (lines_of ahead))
-    ∙ ap (λ (lines : List (List ℕ)). lines ++ lines_of ahead) (sym (lines_in-push events (line ∷ [])));
+      ap lines_of (append_assoc played.played taken.spelling ahead)
+      ∙ played.leads (taken.spelling ++ ahead) left (taken.split ∙ ap (λ (xs : List ℕ). taken.spelling ++ xs) split ∙ sym (append_assoc taken.spelling ahead left))
+      ∙ ap (λ (lines : List (List ℕ)). lines_in events ++ lines) (TakesLine-leads line rest rest' ahead left taken split)
+      ∙ sym (append_assoc (lines_in events) (line ∷ []) (lines_of ahead))
+      ∙ ap (λ (lines : List (List ℕ)). lines ++ lines_of ahead) (sym (lines_in-push events (line ∷ [])));
 }
 
 IfTold-start : (script : Option (List ℕ)) → IfTold script (prepend_known [] script) (HasPlayed [])
@@ -169,24 +169,29 @@ front_written (Some bytes) ahead None left' before after after' world pending co
 front_written (Some bytes) ahead (Some left) None before after after' world pending count shown played front sent = absurd front
 front_written (Some bytes) ahead (Some left) (Some left') before after after' world pending count shown played front sent =
     let read = front.0 in
-    let unread : ahead ++ left ≡ ahead ++ (read ++ left') = ap (λ (xs : List ℕ). ahead ++ xs) front.1 in
-    (played.told.played ++ (ahead ++ read),
-     (played.out ++ take shown pending,
-      (played.told.split ∙ ap (λ (xs : List ℕ). played.told.played ++ xs) unread ∙ moved played.told.played ahead read left',
-       Appends-trans before after after' played.out (take shown pending) played.appended sent,
-       record {
-         rest = lines_of (ahead ++ read);
-         printed = played.printed;
-         last = world;
-         begins = record {
-           events = played.events;
-           split = played.told.leads (ahead ++ read) left' (unread ∙ sym (append_assoc ahead read left'));
-           few = rw played.counted played.few;
-           chain = played.chain;
-         };
-         more = drop shown pending;
-         text_is = append_assoc played.out (take shown pending) (drop shown pending) ∙ ap (λ (text : List ℕ). played.out ++ text) (take-append-drop shown pending) ∙ played.text;
-       })))
+    let unread : ahead ++ left ≡ ahead ++ (read ++ left') = ap (λ (xs : List ℕ). ahead ++ xs) front.1 in (
+      played.told.played ++ (ahead ++ read),
+      (
+        played.out ++ take shown pending,
+        (
+          played.told.split ∙ ap (λ (xs : List ℕ). played.told.played ++ xs) unread ∙ moved played.told.played ahead read left',
+          Appends-trans before after after' played.out (take shown pending) played.appended sent,
+          record {
+            rest = lines_of (ahead ++ read);
+            printed = played.printed;
+            last = world;
+            begins = record {
+              events = played.events;
+              split = played.told.leads (ahead ++ read) left' (unread ∙ sym (append_assoc ahead read left'));
+              few = rw played.counted played.few;
+              chain = played.chain;
+            };
+            more = drop shown pending;
+            text_is = append_assoc played.out (take shown pending) (drop shown pending) ∙ ap (λ (text : List ℕ). played.out ++ text) (take-append-drop shown pending) ∙ played.text;
+          },
+        ),
+      ),
+    )
 
 all_taken : (pending : List ℕ) → take (length pending) pending ≡ pending
 all_taken pending = take_all (length pending) pending (omega arith)
