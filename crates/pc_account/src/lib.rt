@@ -10,3 +10,6 @@ pub use account::Account;
 pub use answer::{Answer, MailboxRow, MailboxRows, Question};
 pub use entry::{AskFault, Entry, Wish};
 pub use secret::digest;
+
+#[cfg(test)]
+mod tests;

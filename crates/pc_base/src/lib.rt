@@ -22,3 +22,6 @@ pub use refusal::{LimitWord, Refusal};
 pub use short_text::ShortText;
 pub use sink::{MemorySink, Sink, write_all};
 pub use source::{MemorySource, Source};
+
+#[cfg(test)]
+mod tests;

@@ -127,7 +127,7 @@ fed-taken limit since new piece count f = elim (cases_Bool (has_feed since)) [
         (f.takes e).1 ∙ rw (← before, ← has) refl ∙ fed-append limit since (take count piece) e
 
 -- where an LF came in a call it's in the piece
-whole-has_feed : (limit : ℕ) (since : List ℕ) (new : FeedState) (piece : List ℕ) (count : ℕ) → has_feed since ≡ false → Feeds (fed limit since) new piece count → new.is_whole ≡ has_feed piece
+pub whole-has_feed : (limit : ℕ) (since : List ℕ) (new : FeedState) (piece : List ℕ) (count : ℕ) → has_feed since ≡ false → Feeds (fed limit since) new piece count → new.is_whole ≡ has_feed piece
 whole-has_feed limit since new piece count e f = ap (λ (state : FeedState). state.is_whole) (f.takes e).1
 
 pub lines_of-fed : (limit : ℕ) (since : List ℕ) (new : FeedState) (piece : List ℕ) (count : ℕ) (rest : List ℕ) → has_feed since ≡ false → Feeds (fed limit since) new piece count → new.is_whole ≡ true → lines_of (since ++ piece ++ rest) ≡ without_return (since ++ before_feed piece) ∷ lines_of (drop count piece ++ rest)

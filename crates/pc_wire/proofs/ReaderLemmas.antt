@@ -7,17 +7,17 @@ use Rattle.std.proofs.lemmas.Bool.Decides.{nat_tests}
 use Rattle.std.proofs.lemmas.List.{nil_from_length, take_all, take-take, take-append-le, take-append-drop, drop-drop, drop-take, length-take-le}
 use Rattle.std.proofs.lemmas.Bool.{or_parts, cases_Bool, cases_lt, false≢true, lt-ltb, ltb-true, ltb-false, eqb-true, MatchBool-at_true, MatchBool-at_false}
 use Rattle.pc_base.specs.declared.failure.Failed.{Failed}
-use Rattle.pc_wire.specs.Lines.{is_feed, has_feed, lines_of, before_feed, without_return}
-use Rattle.pc_wire.specs.LineFeed.{FeedState, fed, with_piece, Feeds}
+use Rattle.pc_wire.specs.Lines.{is_feed, has_feed, lines_of, before_feed, without_return, IsSpelling}
+use Rattle.pc_wire.specs.LineFeed.{FeedState, fed, with_piece, Feeds, IsOver}
 use Rattle.pc_wire.specs.Next.{ShowsLine, ShowsLast}
 use Rattle.pc_wire.specs.declared.line_feed.Next.{Next}
 use Rattle.pc_wire.specs.declared.line_feed.Next.TheVariants.{More}
-use Rattle.pc_wire.specs.Reader.{waiting, IfTold, LosesExcess, KeepsLines, BeginsLong, Fetches}
+use Rattle.pc_wire.specs.Reader.{waiting, IfTold, TakesFront, TakesLine, LosesExcess, KeepsLines, BeginsLong, Fetches}
 use Rattle.pc_wire.specs.Reading.{state_of, Fills, TakesOpen, Seeks, IsHeld}
-use Rattle.pc_wire.specs.declared.fetched.Fetched.TheVariants.{Waits, End, Endless}
+use Rattle.pc_wire.specs.declared.fetched.Fetched.TheVariants.{Waits, End, Overlong}
 use Rattle.pc_wire.specs.declared.fetched.Held.TheVariants.{Begun, Last}
-use Rattle.pc_wire.proofs.LineLemmas.{lines_of-feed, lines_of-last, open-append}
-use Rattle.pc_wire.proofs.FeedLemmas.{before_feed-append, before_feed-open, open-before_feed, piece_parts, fed-more, fed-goes_on, lines_of-fed, length-without_return}
+use Rattle.pc_wire.proofs.LineLemmas.{lines_of-feed, lines_of-last, lines_of-spelling, open-append, IsSpelling-front}
+use Rattle.pc_wire.proofs.FeedLemmas.{before_feed-append, before_feed-open, open-before_feed, take-take_through, take_through-feed, piece_parts, fed-more, fed-goes_on, whole-has_feed, length-without_return, over_stays}
 
 -- ---- the buffer
 
@@ -110,30 +110,33 @@ waiting-cut_whole limit line = elim (cases_lt (limit + 2) (length line)) [
   | inr h ↦ ap (waiting limit) (take_all (limit + 2) line h)
 ]
 
+-- what a feed holds of a line that hasn't ended
+text-open : (limit : ℕ) (feed : FeedState) (line : List ℕ) → has_feed line ≡ false → feed ≡ fed limit line → feed.text ≡ take (limit + 2) line
+text-open limit feed line h e =
+    ap (λ (state : FeedState). state.text) e ∙ ap (take (limit + 2)) (before_feed-open line h)
+
 -- ---- a turn of the loop
 
 -- nothing was taken yet
-pub TakesOpen-none : (feed : FeedState) (before : Option (List ℕ)) → IsHeld Begun feed → TakesOpen feed.limit feed.text feed before before 0
+pub TakesOpen-none : (feed : FeedState) (before : Option (List ℕ)) → IsHeld Begun feed → TakesOpen feed.limit feed.text feed before before
 TakesOpen-none feed before h = record {
   taken = [];
   no_feed = ap has_feed (append-nil feed.text) ∙ open-held feed h;
-  many = omega arith;
   consumed = Consumes-nil before;
   held = h ∙ ap (fed feed.limit) (sym (append-nil feed.text));
 }
 
-pub TakesOpen-kept : (limit : ℕ) (begun : List ℕ) (feed : FeedState) (before middle after : Option (List ℕ)) (count : ℕ) → TakesOpen limit begun feed before middle count → Keeps middle after → TakesOpen limit begun feed before after count
-TakesOpen-kept limit begun feed before middle after count t k = record {
+pub TakesOpen-kept : (limit : ℕ) (begun : List ℕ) (feed : FeedState) (before middle after : Option (List ℕ)) → TakesOpen limit begun feed before middle → Keeps middle after → TakesOpen limit begun feed before after
+TakesOpen-kept limit begun feed before middle after t k = record {
   taken = t.taken;
   no_feed = t.no_feed;
-  many = t.many;
   consumed = Consumes-kept before middle after t.taken t.consumed k;
   held = t.held;
 }
 
 -- the feed took a piece without LF
-pub TakesOpen-more : (limit : ℕ) (begun : List ℕ) (feed new : FeedState) (before left : Option (List ℕ)) (ahead : List ℕ) (taken count : ℕ) → TakesOpen limit begun feed before (prepend_known ahead left) taken → 0 < length ahead → Feeds feed new ahead count → new.is_whole ≡ false → TakesOpen limit begun new before (prepend_known (drop count ahead) left) (taken + 1)
-TakesOpen-more limit begun feed new before left ahead taken count t some f more =
+pub TakesOpen-more : (limit : ℕ) (begun : List ℕ) (feed new : FeedState) (before left : Option (List ℕ)) (ahead : List ℕ) (count : ℕ) → TakesOpen limit begun feed before (prepend_known ahead left) → Feeds feed new ahead count → new.is_whole ≡ false → TakesOpen limit begun new before (prepend_known (drop count ahead) left)
+TakesOpen-more limit begun feed new before left ahead count t f more =
     let F : FeedState → Type 0 = λ state. Feeds state new ahead count in
     let on = fed-goes_on limit (begun ++ t.taken) new ahead count t.no_feed (subst F t.held f) more in
     let join : (begun ++ t.taken) ++ ahead ≡ begun ++ (t.taken ++ ahead) = append_assoc begun t.taken ahead in
@@ -142,22 +145,52 @@ TakesOpen-more limit begun feed new before left ahead taken count t some f more 
     record {
       taken = t.taken ++ ahead;
       no_feed = ap has_feed (sym join) ∙ on.1;
-      many = omega (arith, t.many, some, length-append t.taken ahead);
       consumed = Consumes-trans before (prepend_known ahead left) (prepend_known (drop count ahead) left) t.taken ahead t.consumed (subst C all (Consumes-ahead left ahead count));
       held = on.2 ∙ ap (fed limit) join;
     }
 
+-- a turn in which no LF came
+pub TakesOpen-turn : (limit : ℕ) (begun : List ℕ) (feed new : FeedState) (before middle left : Option (List ℕ)) (ahead ahead' : List ℕ) → TakesOpen limit begun feed before middle → Keeps middle (prepend_known ahead left) → ((count : ℕ) × (Feeds feed new ahead count × (ahead' ≡ drop count ahead))) → new.is_whole ≡ false → TakesOpen limit begun new before (prepend_known ahead' left)
+TakesOpen-turn limit begun feed new before middle left ahead ahead' t keeps (count, (fed, rest)) more =
+    rw rest (TakesOpen-more limit begun feed new before left ahead count (TakesOpen-kept limit begun feed before middle (prepend_known ahead left) t keeps) fed more)
+
+-- a feed that isn't over has room left, and less after each piece
+pub TakesOpen-room : (limit : ℕ) (begun : List ℕ) (feed new : FeedState) (before after : Option (List ℕ)) (ahead : List ℕ) (count : ℕ) → TakesOpen limit begun feed before after → 0 < length ahead → Feeds feed new ahead count → new.is_whole ≡ false → (IsOver new → ⊥) → new.limit + 2 - length new.text < feed.limit + 2 - length feed.text
+TakesOpen-room limit begun feed new before after ahead count t some f more within =
+    let line = begun ++ t.taken in
+    let F : FeedState → Type 0 = λ state. Feeds state new ahead count in
+    let on = fed-goes_on limit line new ahead count t.no_feed (subst F t.held f) more in
+    let text_is = text-open limit feed line t.no_feed t.held in
+    let new_text_is = text-open limit new (line ++ ahead) on.1 on.2 in
+    elim (cases_lt new.limit (length (without_return new.text))) [
+      | inl past ↦ absurd (within (more, past))
+      | inr short ↦ omega (arith, short, length-without_return new.text, ap (λ (state : FeedState). state.limit) t.held, ap (λ (state : FeedState). state.limit) on.2, ap length text_is, ap length new_text_is, length-take (limit + 2) line, length-take (limit + 2) (line ++ ahead), length-append line ahead)
+    ]
+
 -- ---- an LF comes
 
--- what is told of the bytes before and after
-lines_of-taken : (begun taken ahead line : List ℕ) (count : ℕ) (before left : Option (List ℕ)) → Consumes before (prepend_known ahead left) taken → ((rest : List ℕ) → lines_of ((begun ++ taken) ++ ahead ++ rest) ≡ line ∷ lines_of (drop count ahead ++ rest)) → IfTold before (prepend_known (drop count ahead) left) (λ old new. lines_of (begun ++ old) ≡ line ∷ lines_of new)
-lines_of-taken begun taken ahead line count None left c h = tt
-lines_of-taken begun taken ahead line count (Some old) None c h = absurd c
-lines_of-taken begun taken ahead line count (Some old) (Some rest) c h =
-    ap (λ bytes. lines_of (begun ++ bytes)) c ∙ ap lines_of (sym (append_assoc begun taken (ahead ++ rest)) ∙ sym (append_assoc (begun ++ taken) ahead rest)) ∙ h rest
+-- the bytes up to and with the LF spell the line
+spelling-fed : (limit : ℕ) (since : List ℕ) (new : FeedState) (ahead : List ℕ) (count : ℕ) → has_feed since ≡ false → Feeds (fed limit since) new ahead count → new.is_whole ≡ true → IsSpelling (since ++ take count ahead) (without_return (since ++ before_feed ahead))
+spelling-fed limit since new ahead count e f whole =
+    let line = since ++ before_feed ahead in
+    let has : has_feed ahead ≡ true = sym (whole-has_feed limit since new ahead count e f) ∙ whole in
+    let taken : take count ahead ≡ before_feed ahead ++ 10 ∷ [] = ap (λ n. take n ahead) (f.takes e).0 ∙ take-take_through ahead ∙ take_through-feed ahead has in
+    let parts : since ++ take count ahead ≡ line ++ 10 ∷ [] = ap (λ bytes. since ++ bytes) taken ∙ sym (append_assoc since (before_feed ahead) (10 ∷ [])) in
+    let S : List ℕ → Type 0 = λ bytes. IsSpelling bytes (without_return line) in
+    subst S (sym parts) (IsSpelling-front line (open-append since (before_feed ahead) e (open-before_feed ahead)))
 
-pub Seeks-line : (limit : ℕ) (begun : List ℕ) (feed new : FeedState) (before left : Option (List ℕ)) (ahead : List ℕ) (taken count : ℕ) → TakesOpen limit begun feed before (prepend_known ahead left) taken → Feeds feed new ahead count → new.is_whole ≡ true → Seeks limit begun new before (prepend_known (drop count ahead) left) (Ok Waits)
-Seeks-line limit begun feed new before left ahead taken count t f whole =
+-- what is told of the bytes before and after
+told_line : (begun taken ahead line : List ℕ) (count : ℕ) (before left : Option (List ℕ)) → Consumes before (prepend_known ahead left) taken → IsSpelling ((begun ++ taken) ++ take count ahead) line → IfTold before (prepend_known (drop count ahead) left) (λ old new. TakesLine line (begun ++ old) new)
+told_line begun taken ahead line count None left c h = tt
+told_line begun taken ahead line count (Some old) None c h = absurd c
+told_line begun taken ahead line count (Some old) (Some rest) c h = record {
+  spelling = (begun ++ taken) ++ take count ahead;
+  split = ap (λ bytes. begun ++ bytes) c ∙ ap (λ bytes. begun ++ (taken ++ (bytes ++ rest))) (sym (take-append-drop count ahead)) ∙ simp append_assoc;
+  spells = inl h;
+}
+
+pub Seeks-line : (limit : ℕ) (begun : List ℕ) (feed new : FeedState) (before left : Option (List ℕ)) (ahead : List ℕ) (count : ℕ) → TakesOpen limit begun feed before (prepend_known ahead left) → Feeds feed new ahead count → new.is_whole ≡ true → Seeks limit begun new before (prepend_known (drop count ahead) left) (Ok Waits)
+Seeks-line limit begun feed new before left ahead count t f whole =
     let since = begun ++ t.taken in
     let line = since ++ before_feed ahead in
     let F : FeedState → Type 0 = λ state. Feeds state new ahead count in
@@ -171,7 +204,7 @@ Seeks-line limit begun feed new before left ahead taken count t f whole =
         without_return line,
         (
           ap (λ bytes. waiting limit (without_return bytes)) text_is ∙ waiting-cut limit line,
-          lines_of-taken begun t.taken ahead (without_return line) count before left t.consumed (λ rest. lines_of-fed limit since new ahead count rest t.no_feed g whole),
+          told_line begun t.taken ahead (without_return line) count before left t.consumed (spelling-fed limit since new ahead count t.no_feed g whole),
         ),
       ),
     )
@@ -185,30 +218,28 @@ IfTold-held begun kept buffer buffer' (Some xs) None P h = absurd h
 IfTold-held begun kept buffer buffer' (Some xs) (Some ys) P h =
     rw (append_assoc begun buffer xs, append_assoc kept buffer' ys) h
 
--- what a feed holds of a line that hasn't ended
-text-open : (limit : ℕ) (feed : FeedState) (line : List ℕ) → has_feed line ≡ false → feed ≡ fed limit line → feed.text ≡ take (limit + 2) line
-text-open limit feed line h e =
-    ap (λ (state : FeedState). state.text) e ∙ ap (take (limit + 2)) (before_feed-open line h)
+pub TakesOpen-limit : (limit : ℕ) (begun : List ℕ) (feed : FeedState) (before after : Option (List ℕ)) → TakesOpen limit begun feed before after → feed.limit ≡ limit
+TakesOpen-limit limit begun feed before after t = ap (λ (state : FeedState). state.limit) t.held
 
-pub TakesOpen-limit : (limit : ℕ) (begun : List ℕ) (feed : FeedState) (before after : Option (List ℕ)) (count : ℕ) → TakesOpen limit begun feed before after count → feed.limit ≡ limit
-TakesOpen-limit limit begun feed before after count t = ap (λ (state : FeedState). state.limit) t.held
+pub open-whole : (limit : ℕ) (begun : List ℕ) (feed : FeedState) (before after : Option (List ℕ)) → TakesOpen limit begun feed before after → feed.is_whole ≡ false
+open-whole limit begun feed before after t = ap (λ (state : FeedState). state.is_whole) t.held ∙ t.no_feed
 
-pub open-whole : (limit : ℕ) (begun : List ℕ) (feed : FeedState) (before after : Option (List ℕ)) (count : ℕ) → TakesOpen limit begun feed before after count → feed.is_whole ≡ false
-open-whole limit begun feed before after count t = ap (λ (state : FeedState). state.is_whole) t.held ∙ t.no_feed
-
-pub IsHeld-open : (limit : ℕ) (begun : List ℕ) (feed : FeedState) (before after : Option (List ℕ)) (count : ℕ) → TakesOpen limit begun feed before after count → IsHeld Begun feed
-IsHeld-open limit begun feed before after count t =
+pub IsHeld-open : (limit : ℕ) (begun : List ℕ) (feed : FeedState) (before after : Option (List ℕ)) → TakesOpen limit begun feed before after → IsHeld Begun feed
+IsHeld-open limit begun feed before after t =
     let line = begun ++ t.taken in
     let text_is = text-open limit feed line t.no_feed t.held in
-    let limit_is = TakesOpen-limit limit begun feed before after count t in
+    let limit_is = TakesOpen-limit limit begun feed before after t in
     t.held ∙ fed-kept limit line t.no_feed ∙ ap (fed limit) (sym text_is) ∙ ap (λ n. fed n feed.text) (sym limit_is)
 
 -- at the end what came without LF is the last line
-told_last : (begun taken : List ℕ) (before after : Option (List ℕ)) → has_feed (begun ++ taken) ≡ false → 0 < length (begun ++ taken) → Consumes before after taken → IsAtEnd after → IfTold before after (λ old new. lines_of (begun ++ old) ≡ (begun ++ taken) ∷ lines_of new)
+told_last : (begun taken : List ℕ) (before after : Option (List ℕ)) → has_feed (begun ++ taken) ≡ false → 0 < length (begun ++ taken) → Consumes before after taken → IsAtEnd after → IfTold before after (λ old new. TakesLine (begun ++ taken) (begun ++ old) new)
 told_last begun taken None after h some c e = tt
 told_last begun taken (Some old) None h some c e = absurd c
-told_last begun taken (Some old) (Some new) h some c e =
-    ap (λ bytes. lines_of (begun ++ bytes)) (c ∙ ap (λ bytes. taken ++ bytes) e ∙ append-nil taken) ∙ lines_of-last (begun ++ taken) h some ∙ ap (λ bytes. (begun ++ taken) ∷ lines_of bytes) (sym e)
+told_last begun taken (Some old) (Some new) h some c e = record {
+  spelling = begun ++ taken;
+  split = ap (λ bytes. begun ++ bytes) c ∙ sym (append_assoc begun taken new);
+  spells = inr (refl, e, h, some);
+}
 
 -- where nothing came there is none
 told_none : (begun taken : List ℕ) (before after : Option (List ℕ)) → begun ++ taken ≡ [] → Consumes before after taken → IsAtEnd after → IfTold before after (λ old new. (lines_of (begun ++ old) ≡ []) × (new ≡ []))
@@ -232,20 +263,22 @@ lines_of-front front rest h e =
     let parts : front ++ rest ≡ line ++ 10 ∷ more = ap (λ bytes. front ++ bytes) (piece_parts rest e) ∙ sym (append_assoc front (before_feed rest) (10 ∷ more)) in
     ap lines_of parts ∙ lines_of-feed line more (open-append front (before_feed rest) h (open-before_feed rest))
 
--- bytes without LF are a front of the first line, or all but its CR
-begins_long : (count : ℕ) (front rest : List ℕ) → has_feed front ≡ false → count + 1 ≤ length front → BeginsLong count (front ++ rest)
-begins_long count front rest h many = elim (cases_Bool (has_feed rest)) [
-  | inl e ↦ (without_return (front ++ before_feed rest), (lines_of (drop (length (take_through 10 rest)) rest), (lines_of-front front rest h e, omega (arith, length-without_return (front ++ before_feed rest), length-append front (before_feed rest)))))
-  | inr e ↦ (front ++ rest, ([], (lines_of-last (front ++ rest) (open-append front rest h e) (omega (arith, length-append front rest)), omega (arith, length-append front rest))))
+-- a line that is over is past the limit, whatever follows
+begins_long : (limit : ℕ) (front rest : List ℕ) → has_feed front ≡ false → IsOver (fed limit front) → BeginsLong (limit + 1) (front ++ rest)
+begins_long limit front rest h over = elim (cases_Bool (has_feed rest)) [
+  | inl e ↦ (without_return (front ++ before_feed rest), (lines_of (drop (length (take_through 10 rest)) rest), (lines_of-front front rest h e, omega (arith, always (before_feed rest)))))
+  | inr e ↦ (front ++ rest, ([], (lines_of-last (front ++ rest) (open-append front rest h e) (omega (arith, always rest, length-without_return (front ++ rest))), omega (arith, always rest, length-without_return (front ++ rest)))))
 ]
+  where
+    always : (more : List ℕ) → limit < length (without_return (front ++ more))
+    always = (over_stays limit front h).0 over
 
-told_long : (limit count : ℕ) (begun taken kept : List ℕ) (before after : Option (List ℕ)) → has_feed (begun ++ taken) ≡ false → kept ≡ take (limit + 2) (begun ++ taken) → count + 1 ≤ length taken → Consumes before after taken → IfTold before after (λ old new. BeginsLong count (begun ++ old) × LosesExcess limit (begun ++ old) (kept ++ new))
-told_long limit count begun taken kept None after h k many c = tt
-told_long limit count begun taken kept (Some old) None h k many c = absurd c
-told_long limit count begun taken kept (Some old) (Some new) h k many c =
+told_long : (limit : ℕ) (begun taken kept : List ℕ) (before after : Option (List ℕ)) → has_feed (begun ++ taken) ≡ false → kept ≡ take (limit + 2) (begun ++ taken) → IsOver (fed limit (begun ++ taken)) → Consumes before after taken → IfTold before after (λ old new. BeginsLong (limit + 1) (begun ++ old) × LosesExcess limit (begun ++ old) (kept ++ new))
+told_long limit begun taken kept None after h k over c = tt
+told_long limit begun taken kept (Some old) None h k over c = absurd c
+told_long limit begun taken kept (Some old) (Some new) h k over c =
     let parts : begun ++ old ≡ (begun ++ taken) ++ new = ap (λ bytes. begun ++ bytes) c ∙ sym (append_assoc begun taken new) in
-    let long = begins_long count (begun ++ taken) new h (omega (arith, length-append begun taken)) in
-    (subst (BeginsLong count) (sym parts) long, told_cut limit begun taken kept (Some old) (Some new) h k c)
+    (subst (BeginsLong (limit + 1)) (sym parts) (begins_long limit (begun ++ taken) new h over), told_cut limit begun taken kept (Some old) (Some new) h k c)
 
 pub Fetches-last : (feed new : FeedState) (buffer buffer' : List ℕ) (left left' : Option (List ℕ)) → Seeks feed.limit feed.text new (prepend_known buffer left) (prepend_known buffer' left') (Ok End) → 0 < length new.text → Fetches (state_of Begun feed buffer) (state_of Last new buffer') left left' (Ok Waits)
 Fetches-last feed new buffer buffer' left left' (t, end) some =
@@ -255,7 +288,7 @@ Fetches-last feed new buffer buffer' left left' (t, end) some =
       line,
       (
         ap (λ n. waiting n new.text) limit_is ∙ ap (waiting feed.limit) text_is ∙ waiting-cut_whole feed.limit line,
-        IfTold-held feed.text [] buffer buffer' left left' (λ old new. lines_of old ≡ line ∷ lines_of new) (told_last feed.text t.taken (prepend_known buffer left) (prepend_known buffer' left') t.no_feed (omega (arith, ap length text_is, length-take (feed.limit + 2) line)) t.consumed end),
+        IfTold-held feed.text [] buffer buffer' left left' (TakesLine line) (told_last feed.text t.taken (prepend_known buffer left) (prepend_known buffer' left') t.no_feed (omega (arith, ap length text_is, length-take (feed.limit + 2) line)) t.consumed end),
       ),
     )
 
@@ -267,11 +300,11 @@ Fetches-end feed new buffer buffer' left left' (t, end) drained none =
     let told = told_none feed.text t.taken (prepend_known buffer left) (prepend_known buffer' left') empty t.consumed end in
     (refl, ap (λ bytes. bytes ++ buffer') none ∙ drained, rw none (IfTold-held feed.text [] buffer buffer' left left' (λ old new. (lines_of old ≡ []) × (new ≡ [])) told))
 
-pub Fetches-endless : (feed new : FeedState) (buffer buffer' : List ℕ) (left left' : Option (List ℕ)) → Seeks feed.limit feed.text new (prepend_known buffer left) (prepend_known buffer' left') (Ok Endless) → Fetches (state_of Begun feed buffer) (state_of Begun new buffer') left left' (Ok Endless)
-Fetches-endless feed new buffer buffer' left left' t =
+pub Fetches-overlong : (feed new : FeedState) (buffer buffer' : List ℕ) (left left' : Option (List ℕ)) → Seeks feed.limit feed.text new (prepend_known buffer left) (prepend_known buffer' left') (Ok Overlong) → Fetches (state_of Begun feed buffer) (state_of Begun new buffer') left left' (Ok Overlong)
+Fetches-overlong feed new buffer buffer' left left' (t, over) =
     let text_is = text-open feed.limit new (feed.text ++ t.taken) t.no_feed t.held in
-    let many : (2 ^ 64 - 2) + 1 ≤ length t.taken = omega (arith, t.many) in
-    (refl, IfTold-held feed.text new.text buffer buffer' left left' (λ before after. BeginsLong (2 ^ 64 - 2) before × LosesExcess feed.limit before after) (told_long feed.limit (2 ^ 64 - 2) feed.text t.taken new.text (prepend_known buffer left) (prepend_known buffer' left') t.no_feed text_is many t.consumed))
+    let told = told_long feed.limit feed.text t.taken new.text (prepend_known buffer left) (prepend_known buffer' left') t.no_feed text_is (subst IsOver t.held over) t.consumed in
+    (refl, IfTold-held feed.text new.text buffer buffer' left left' (λ before after. BeginsLong (feed.limit + 1) before × LosesExcess feed.limit before after) told)
 
 pub Fetches-failed : (feed new : FeedState) (buffer buffer' : List ℕ) (left left' : Option (List ℕ)) (e : Failed) → Seeks feed.limit feed.text new (prepend_known buffer left) (prepend_known buffer' left') (Err e) → Fetches (state_of Begun feed buffer) (state_of Begun new buffer') left left' (Err e)
 Fetches-failed feed new buffer buffer' left left' e t =
@@ -344,3 +377,40 @@ KeepsLines-cut limit line rest h = elim (cases_Bool (has_feed rest)) [
 
 pub KeepsLines-excess : (limit : ℕ) (old new : List ℕ) → LosesExcess limit old new → KeepsLines limit old new
 KeepsLines-excess limit old new (line, (rest, (h, o, n))) = rw (o, n) (KeepsLines-cut limit line rest h)
+
+-- ---- the line that was taken
+
+pub TakesLine-leads : (line before after ahead left : List ℕ) (taken : TakesLine line before after) → after ≡ ahead ++ left → lines_of (taken.spelling ++ ahead) ≡ line ∷ lines_of ahead
+TakesLine-leads line before after ahead left taken e = elim taken.spells [
+  | inl spelled ↦ lines_of-spelling taken.spelling line ahead spelled
+  | inr last ↦ (
+      let none : ahead ≡ [] = nil_from_length ahead (omega (arith, ap length e, ap length last.1, length-append ahead left)) in
+      ap (λ bytes. lines_of (taken.spelling ++ bytes)) none ∙ ap lines_of (append-nil taken.spelling ∙ last.0) ∙ lines_of-last line last.2 last.3 ∙ ap (λ bytes. line ∷ lines_of bytes) (sym none)
+      )
+]
+
+pub TakesLine-first : (line before after : List ℕ) → TakesLine line before after → lines_of before ≡ line ∷ lines_of after
+TakesLine-first line before after taken =
+    ap lines_of taken.split ∙ TakesLine-leads line before after after [] taken (sym (append-nil after))
+
+-- nothing more was read
+pub TakesFront-none : (left : Option (List ℕ)) → TakesFront left left
+TakesFront-none None = tt
+TakesFront-none (Some bytes) = ([], refl)
+
+pub TakesFront-more : (before middle after : Option (List ℕ)) → TakesFront before middle → TakesFront middle after → TakesFront before after
+TakesFront-more None middle after first second = tt
+TakesFront-more (Some bytes) None after first second = absurd first
+TakesFront-more (Some bytes) (Some rest) None first second = absurd second
+TakesFront-more (Some bytes) (Some rest) (Some left) first second =
+    (first.0 ++ second.0, first.1 ∙ ap (λ (xs : List ℕ). first.0 ++ xs) second.1 ∙ sym (append_assoc first.0 second.0 left))
+
+pub TakesFront-read : (before after : Option (List ℕ)) (count : ℕ) (into : List ℕ) → Consumes before after (take count into) → TakesFront before after
+TakesFront-read None after count into read = tt
+TakesFront-read (Some bytes) None count into read = absurd read
+TakesFront-read (Some bytes) (Some rest) count into read = (take count into, read)
+
+pub TakesFront-kept : (before after : Option (List ℕ)) → Keeps before after → TakesFront before after
+TakesFront-kept None after kept = tt
+TakesFront-kept (Some bytes) None kept = absurd kept
+TakesFront-kept (Some bytes) (Some rest) kept = ([], sym kept)

@@ -1,14 +1,11 @@
 -- The lines of a text. An LF, byte 10, ends a line; a CR, byte 13, directly before it is no part of the line.
 use Rattle.std.specs.Prelude.{◌≡◌, ℕ, Bool, false, ◌==◌, ◌&&◌, List, [], ◌∷◌, ◌++◌, ◌⊎◌, if◌then◌else◌}
-use Rattle.std.specs.List.{list_any, onto_first}
+use Rattle.std.specs.List.{onto_first}
+pub use Rattle.pc_base.specs.Line.{has_feed}
 
 -- an LF
 abbrev pub is_feed : ℕ → Bool
 is_feed byte = byte == 10
-
--- an LF is among the bytes
-abbrev pub has_feed : List ℕ → Bool
-has_feed bytes = list_any is_feed bytes
 
 -- an LF comes first
 abbrev pub is_at_feed : List ℕ → Bool

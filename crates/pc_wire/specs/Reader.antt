@@ -1,12 +1,12 @@
 -- What a line reader holds, and what it reads.
-use Rattle.std.specs.Prelude.{◌≡◌, ℕ, ◌+◌, ◌-◌, ◌^◌, ◌≤◌, ⊤, false, List, [], ◌∷◌, ◌++◌, ◌⊎◌, length, take, nat_lt, if◌then◌else◌, Option, Some, None, Result, Ok, Err}
+use Rattle.std.specs.Prelude.{◌≡◌, ℕ, ◌+◌, ◌<◌, ◌≤◌, ⊤, false, List, [], ◌∷◌, ◌++◌, ◌⊎◌, length, take, nat_lt, if◌then◌else◌, Option, Some, None, Result, Ok, Err}
 use Rattle.std.specs.Io.KnownBytes.{prepend_known}
 use Rattle.pc_base.specs.declared.failure.Failed.{Failed}
-use Rattle.pc_wire.specs.Lines.{has_feed, lines_of}
+use Rattle.pc_wire.specs.Lines.{has_feed, lines_of, IsSpelling}
 use Rattle.pc_wire.specs.declared.line_feed.Next.{Next}
 use Rattle.pc_wire.specs.declared.line_feed.Next.TheVariants.{Line, More, TooLong}
 use Rattle.pc_wire.specs.declared.fetched.Fetched.{Fetched}
-use Rattle.pc_wire.specs.declared.fetched.Fetched.TheVariants.{Waits, End, Endless}
+use Rattle.pc_wire.specs.declared.fetched.Fetched.TheVariants.{Waits, End, Overlong}
 
 -- the line that waits, if one does
 pub data Waiting : Type 0 where
@@ -36,6 +36,20 @@ IfTold None after P = ⊤
 IfTold (Some old) None P = ⊥
 IfTold (Some old) (Some new) P = P old new
 
+-- what is left is a rest of what there was, where it is told
+abbrev pub TakesFront : Option (List ℕ) → Option (List ℕ) → Type 0
+TakesFront before after = IfTold before after (λ bytes rest. (read : List ℕ) × (bytes ≡ read ++ rest))
+
+-- the bytes are the input's last line, which no LF ends; a CR at its end belongs to it
+abbrev pub IsLastLine : List ℕ → List ℕ → List ℕ → Type 0
+IsLastLine spelling line after = (spelling ≡ line) × (after ≡ []) × (has_feed line ≡ false) × (0 < length line)
+
+-- a line was taken from the front of the bytes
+pub record TakesLine (line before after : List ℕ) : Type 0 where
+  pub spelling : List ℕ
+  pub split : before ≡ spelling ++ after
+  pub spells : IsSpelling spelling line ⊎ IsLastLine spelling line after
+
 -- of the line that comes first, bytes past the limit and two more may be lost, and nothing else
 abbrev pub LosesExcess : ℕ → List ℕ → List ℕ → Type 0
 LosesExcess limit old new =
@@ -53,11 +67,11 @@ BeginsLong count bytes = (line : List ℕ) × ((more : List (List ℕ)) × ((lin
 -- a call of `fetch`, given what the source had left before and after
 abbrev pub Fetches : ReaderState → ReaderState → Option (List ℕ) → Option (List ℕ) → Result Fetched Failed → Type 0
 Fetches old new left left' (Ok Waits) =
-    (line : List ℕ) × ((new.waits ≡ waiting old.limit line) × IfTold (unread old left) (unread new left') (λ before after. lines_of before ≡ line ∷ lines_of after))
+    (line : List ℕ) × ((new.waits ≡ waiting old.limit line) × IfTold (unread old left) (unread new left') (TakesLine line))
 Fetches old new left left' (Ok End) =
     (new.waits ≡ no_line) × (new.ahead ≡ []) × IfTold (unread old left) (unread new left') (λ before after. (lines_of before ≡ []) × (after ≡ []))
-Fetches old new left left' (Ok Endless) =
-    (new.waits ≡ no_line) × IfTold (unread old left) (unread new left') (λ before after. BeginsLong (2 ^ 64 - 2) before × LosesExcess old.limit before after)
+Fetches old new left left' (Ok Overlong) =
+    (new.waits ≡ no_line) × IfTold (unread old left) (unread new left') (λ before after. BeginsLong (old.limit + 1) before × LosesExcess old.limit before after)
 Fetches old new left left' (Err e) =
     (new.waits ≡ no_line) × IfTold (unread old left) (unread new left') (LosesExcess old.limit)
 

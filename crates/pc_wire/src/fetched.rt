@@ -7,9 +7,9 @@ pub enum Fetched {
     Waits,
     /// The input has ended, and no line is left.
     End,
-    /// So many bytes came without LF, at least 2^64 - 1, that reading stopped: the line is too long,
-    /// whatever follows. No line waits; another call would go on with it.
-    Endless,
+    /// The next line is past the limit, whatever follows, and its LF wasn't among the bytes read so
+    /// far. No line waits; another call goes on with this one.
+    Overlong,
 }
 
 /// What a reader's feed holds.

@@ -5,7 +5,7 @@ ghost use Rattle.std.specs.Io.KnownBytes.{prepend_known};
 ghost use Rattle.pc_base.specs.Stream.{HasCause};
 ghost use Rattle.pc_wire.specs.LineFeed.{Feeds};
 ghost use Rattle.pc_wire.specs.Next.{ShowsLine};
-ghost use Rattle.pc_wire.specs.Reader.{no_line, waiting, Fetches, ShowsWaiting};
+ghost use Rattle.pc_wire.specs.Reader.{TakesFront, no_line, waiting, Fetches, ShowsWaiting};
 ghost use Rattle.pc_wire.specs.Reading.{state_of, IsHeld, Seeks};
 
 use crate::fetched::{Fetched, Held};
@@ -47,12 +47,15 @@ impl LineReader {
         })
     }
 
-    /// Reads on until a line waits or the input ends. After `Failed` another call goes on where this
-    /// one stopped.
+    /// Reads on until a line waits, the line is past the limit whatever follows (`Overlong`), or the
+    /// input ends. A line past the limit waits only where the read that took it there gave its LF too,
+    /// where a call after `Overlong` came to its end, or where the input ends with a CR that is its one
+    /// byte past the limit. After `Failed` another call goes on where this one stopped.
     pub fn fetch<S: Source>(&mut self, source: &mut S) -> Result<Fetched, Failed>
         requires { self.old.waits ≡ no_line }
         ensures limit { self.new.limit ≡ self.old.limit }
         ensures lines { Fetches self.old self.new (S.left source.old) (S.left source.new) result }
+        ensures front { TakesFront (S.left source.old) (S.left source.new) }
         ensures cause { HasCause (S.faults source.old) (S.faults source.new) result }
     {
         let (held, fetched) = seek_line(&mut self.buffer, &mut self.feed, source);
@@ -86,7 +89,8 @@ impl LineReader {
     }
 }
 
-/// Reads up to an LF or the end. Answers what the feed holds now, and what `fetch` answers.
+/// Reads up to an LF, past the limit, or to the end. Answers what the feed holds now, and what
+/// `fetch` answers.
 fn seek_line<S: Source>(
     buffer: &mut ReadBuffer,
     feed: &mut LineFeed,
@@ -98,6 +102,7 @@ fn seek_line<S: Source>(
     ensures lines { Fetches
         (state_of Held.Begun feed.old buffer.old) (state_of result.0 feed.new buffer.new)
         (S.left source.old) (S.left source.new) result.1 }
+    ensures front { TakesFront (S.left source.old) (S.left source.new) }
     ensures cause { HasCause (S.faults source.old) (S.faults source.new) result.1 }
 {
     let Ok(fetched) = seek_feed(buffer, feed, source) else {
@@ -109,11 +114,11 @@ fn seek_line<S: Source>(
             Next::More => (Held::Begun, Ok(Fetched::End)),
             _ => (Held::Last, Ok(Fetched::Waits)),
         },
-        Fetched::Endless => (Held::Begun, Ok(Fetched::Endless)),
+        Fetched::Overlong => (Held::Begun, Ok(Fetched::Overlong)),
     }
 }
 
-/// Feeds what is ahead and what the source gives, up to an LF or the end.
+/// Feeds what is ahead and what the source gives, up to an LF, past the limit, or to the end.
 fn seek_feed<S: Source>(
     buffer: &mut ReadBuffer,
     feed: &mut LineFeed,
@@ -124,20 +129,18 @@ fn seek_feed<S: Source>(
         (prepend_known buffer.old (S.left source.old))
         (prepend_known buffer.new (S.left source.new)) result }
     ensures drained { result ≡ Ok Fetched.End → buffer.new ≡ [] }
+    ensures front { TakesFront (S.left source.old) (S.left source.new) }
     ensures cause { HasCause (S.faults source.old) (S.faults source.new) result }
 {
-    for _turn in 0..u64::MAX {
-        let Ok(is_filled) = buffer.fill(source) else {
-            return Err(Failed);
-        };
-        if !is_filled {
-            return Ok(Fetched::End);
-        }
+    while buffer.fill(source)? {
         if feed_ahead(buffer, feed) {
             return Ok(Fetched::Waits);
         }
+        if feed.over() {
+            return Ok(Fetched::Overlong);
+        }
     }
-    Ok(Fetched::Endless)
+    Ok(Fetched::End)
 }
 
 /// Feeds what is ahead, up to an LF, and answers whether one came.

@@ -3,6 +3,7 @@
 ghost use Rattle.std.specs.Prelude.{◌≡◌, ◌≤◌, [], IfOk, drop, length};
 ghost use Rattle.std.specs.Io.KnownBytes.{prepend_known};
 ghost use Rattle.pc_base.specs.Stream.{HasCause};
+ghost use Rattle.pc_wire.specs.Reader.{TakesFront};
 ghost use Rattle.pc_wire.specs.Reading.{Fills};
 
 use pc_base::{Failed, Memory, Source};
@@ -48,6 +49,7 @@ impl ReadBuffer {
         ensures bytes { Fills self.new
             (prepend_known self.old (S.left source.old))
             (prepend_known self.new (S.left source.new)) result }
+        ensures front { TakesFront (S.left source.old) (S.left source.new) }
         ensures cause { HasCause (S.faults source.old) (S.faults source.new) result }
     {
         if self.start < self.end {

@@ -8,11 +8,12 @@ use Rattle.std.proofs.lemmas.Bool.{false≢true}
 use Rattle.pc_base.specs.declared.failure.Failed.{Failed}
 use Rattle.pc_base.specs.Stream.{AppendsFront, Rose}
 use Rattle.pc_wire.specs.Lines.{lines_of}
-use Rattle.pc_wire.specs.Reader.{ReaderState, IfTold, BeginsLong, LosesExcess, no_line, unread}
+use Rattle.pc_wire.specs.Reader.{ReaderState, IfTold, TakesLine, TakesFront, BeginsLong, LosesExcess, no_line, unread}
+use Rattle.pc_wire.proofs.ReaderLemmas.{TakesFront-none, TakesLine-leads, TakesLine-first}
 use Rattle.pc_world.proofs.Stopped.{stops_bad, long_none}
 use Rattle.pc_world.specs.Account.{Account}
-use Rattle.pc_world.specs.Runs.{Plays, Chain, Begins, GoesOn, IsRun, IsOfForm, IsRefused, IsFront, lines_in, text_of, ended, most_lines}
-use Rattle.pc_world.specs.Replay.{Stops, Finishes, Sends, Writes, Ends, Completes, IsComplete}
+use Rattle.pc_world.specs.Runs.{Plays, Chain, Begins, GoesOn, IsRun, IsOfForm, IsRefused, lines_in, text_of, ended, most_lines}
+use Rattle.pc_world.specs.Replay.{Stops, Finishes, Sends, Writes, WritesFront, Ends, Completes, IsComplete}
 use Rattle.pc_world.specs.declared.replaying.ReplayEnd.{ReplayEnd}
 use Rattle.pc_world.specs.declared.replaying.ReplayEnd.TheVariants.{Done, Refused, ReadFault, WriteFault, Memory}
 
@@ -38,21 +39,45 @@ Chain-push old (earlier ∷ events) printed middle event first new chain plays =
     let rest = chain.1.1.1 in
     (shown, (next, (others ++ first, (ap (λ (lines : List (List ℕ)). lines ++ first) rest.0 ∙ append_assoc shown others first, rest.1, Chain-push next events others middle event first new rest.2 plays))))
 
+-- the bytes before the rest have the events' lines, and in front of every part of the rest they do, too
+pub record HasPlayed (events : List (List (List ℕ))) (bytes rest : List ℕ) : Type 0 where
+  pub played : List ℕ
+  pub split : bytes ≡ played ++ rest
+  pub leads : (ahead left : List ℕ) → rest ≡ ahead ++ left → lines_of (played ++ ahead) ≡ lines_in events ++ lines_of ahead
+
 -- what a replay keeps: events of the script are played, and what they print is written, but for what is pending
 pub record IsPlayed (script unread before after : Option (List ℕ)) (world : List Account) (pending : List ℕ) (count : ℕ) : Type 0 where
   pub events : List (List (List ℕ))
   pub printed : List (List ℕ)
   pub out : List ℕ
-  pub told : IfTold script unread (λ bytes rest. lines_of bytes ≡ lines_in events ++ lines_of rest)
+  pub told : IfTold script unread (HasPlayed events)
   pub counted : length (lines_in events) ≡ count
   pub few : count ≤ most_lines
   pub chain : Chain [] events printed world
   pub appended : Appends before after out
   pub text : out ++ pending ≡ text_of printed
 
-IfTold-start : (script : Option (List ℕ)) → IfTold script (prepend_known [] script) (λ bytes rest. lines_of bytes ≡ lines_of rest)
+HasPlayed-none : (bytes : List ℕ) → HasPlayed [] bytes bytes
+HasPlayed-none bytes = record { played = []; split = refl; leads = λ ahead left split. refl }
+
+HasPlayed-lines : (events : List (List (List ℕ))) (bytes rest : List ℕ) → HasPlayed events bytes rest → lines_of bytes ≡ lines_in events ++ lines_of rest
+HasPlayed-lines events bytes rest played = ap lines_of played.split ∙ played.leads rest [] (sym (append-nil rest))
+
+HasPlayed-more : (events : List (List (List ℕ))) (bytes rest rest' line : List ℕ) → HasPlayed events bytes rest → TakesLine line rest rest' → HasPlayed (events ++ (line ∷ []) ∷ []) bytes rest'
+HasPlayed-more events bytes rest rest' line played taken = record {
+  played = played.played ++ taken.spelling;
+  split = played.split ∙ ap (λ (xs : List ℕ). played.played ++ xs) taken.split ∙ sym (append_assoc played.played taken.spelling rest');
+  leads = λ ahead left split.
+    ap lines_of (append_assoc played.played taken.spelling ahead)
+    ∙ played.leads (taken.spelling ++ ahead) left (taken.split ∙ ap (λ (xs : List ℕ). taken.spelling ++ xs) split ∙ sym (append_assoc taken.spelling ahead left))
+    ∙ ap (λ (lines : List (List ℕ)). lines_in events ++ lines) (TakesLine-leads line rest rest' ahead left taken split)
+    ∙ sym (append_assoc (lines_in events) (line ∷ []) (lines_of ahead))
+    ∙ ap (λ (lines : List (List ℕ)). lines ++ lines_of ahead) (sym (lines_in-push events (line ∷ [])));
+}
+
+IfTold-start : (script : Option (List ℕ)) → IfTold script (prepend_known [] script) (HasPlayed [])
 IfTold-start None = tt
-IfTold-start (Some bytes) = refl
+IfTold-start (Some bytes) = HasPlayed-none bytes
 
 pub IsPlayed-none : (script before : Option (List ℕ)) → IsPlayed script (prepend_known [] script) before before [] [] 0
 IsPlayed-none script before = record {
@@ -82,22 +107,16 @@ IsPlayed-count script unread before after world pending count same equal played 
     subst (λ (n : ℕ). IsPlayed script unread before after world pending n) equal played
 
 told_more : (script unread unread' : Option (List ℕ)) (events : List (List (List ℕ))) (line : List ℕ)
-    → IfTold script unread (λ bytes rest. lines_of bytes ≡ lines_in events ++ lines_of rest)
-    → IfTold unread unread' (λ bytes rest. lines_of bytes ≡ line ∷ lines_of rest)
-    → IfTold script unread' (λ bytes rest. lines_of bytes ≡ lines_in (events ++ (line ∷ []) ∷ []) ++ lines_of rest)
+    → IfTold script unread (HasPlayed events) → IfTold unread unread' (TakesLine line) → IfTold script unread' (HasPlayed (events ++ (line ∷ []) ∷ []))
 told_more None unread unread' events line told more = tt
 told_more (Some bytes) None unread' events line told more = absurd told
 told_more (Some bytes) (Some rest) None events line told more = absurd more
-told_more (Some bytes) (Some rest) (Some rest') events line told more =
-    told
-    ∙ ap (λ (lines : List (List ℕ)). lines_in events ++ lines) more
-    ∙ sym (append_assoc (lines_in events) (line ∷ []) (lines_of rest'))
-    ∙ ap (λ (lines : List (List ℕ)). lines ++ lines_of rest') (sym (lines_in-push events (line ∷ [])))
+told_more (Some bytes) (Some rest) (Some rest') events line told more = HasPlayed-more events bytes rest rest' line told more
 
 pub IsPlayed-more : (script unread unread' before after : Option (List ℕ)) (world next : List Account) (pending pending' : List ℕ) (count : ℕ) (line : List ℕ) (printed : List (List ℕ))
     → count < most_lines
     → IsPlayed script unread before after world pending count
-    → IfTold unread unread' (λ bytes rest. lines_of bytes ≡ line ∷ lines_of rest)
+    → IfTold unread unread' (TakesLine line)
     → Plays world (line ∷ []) printed next
     → pending' ≡ pending ++ text_of printed
     → IsPlayed script unread' before after next pending' (count + 1)
@@ -139,68 +158,79 @@ IsPlayed-passed script unread before after after' world pending pending' count (
     subst Q (sym sent.0) (IsPlayed-sent script unread before after after' world pending count played sent.1)
 IsPlayed-passed script unread before after after' world pending pending' count (Err failed) played fine sends = absurd (false≢true fine)
 
--- a front of a transcript was written, whatever of what is pending
-front_written : (script unread before after after' : Option (List ℕ)) (world : List Account) (pending : List ℕ) (count shown : ℕ)
-    → IsPlayed script unread before after world pending count → Appends after after' (take shown pending) → Writes script before after' IsFront
-front_written None unread before after after' world pending count shown played sent = tt
-front_written (Some bytes) None before after after' world pending count shown played sent = absurd played.told
-front_written (Some bytes) (Some rest) before after after' world pending count shown played sent = (
-  played.out ++ take shown pending,
-  (
-    Appends-trans before after after' played.out (take shown pending) played.appended sent,
-    record {
-      rest = lines_of rest;
-      printed = played.printed;
-      last = world;
-      begins = record { events = played.events; split = played.told; few = rw played.counted played.few; chain = played.chain };
-      more = drop shown pending;
-      text_is = append_assoc played.out (take shown pending) (drop shown pending) ∙ ap (λ (text : List ℕ). played.out ++ text) (take-append-drop shown pending) ∙ played.text;
-    },
-  ),
-)
+moved : (front ahead read rest : List ℕ) → front ++ (ahead ++ (read ++ rest)) ≡ (front ++ (ahead ++ read)) ++ rest
+moved front ahead read rest = ap (λ (xs : List ℕ). front ++ xs) (sym (append_assoc ahead read rest)) ∙ sym (append_assoc front (ahead ++ read) rest)
+
+-- a front of a transcript was written, whatever of what is pending, and whatever more was read
+front_written : (script : Option (List ℕ)) (ahead : List ℕ) (left left' before after after' : Option (List ℕ)) (world : List Account) (pending : List ℕ) (count shown : ℕ)
+    → IsPlayed script (prepend_known ahead left) before after world pending count → TakesFront left left' → Appends after after' (take shown pending) → WritesFront script left' before after'
+front_written None ahead left left' before after after' world pending count shown played front sent = tt
+front_written (Some bytes) ahead None left' before after after' world pending count shown played front sent = absurd played.told
+front_written (Some bytes) ahead (Some left) None before after after' world pending count shown played front sent = absurd front
+front_written (Some bytes) ahead (Some left) (Some left') before after after' world pending count shown played front sent =
+    let read = front.0 in
+    let unread : ahead ++ left ≡ ahead ++ (read ++ left') = ap (λ (xs : List ℕ). ahead ++ xs) front.1 in
+    (played.told.played ++ (ahead ++ read),
+     (played.out ++ take shown pending,
+      (played.told.split ∙ ap (λ (xs : List ℕ). played.told.played ++ xs) unread ∙ moved played.told.played ahead read left',
+       Appends-trans before after after' played.out (take shown pending) played.appended sent,
+       record {
+         rest = lines_of (ahead ++ read);
+         printed = played.printed;
+         last = world;
+         begins = record {
+           events = played.events;
+           split = played.told.leads (ahead ++ read) left' (unread ∙ sym (append_assoc ahead read left'));
+           few = rw played.counted played.few;
+           chain = played.chain;
+         };
+         more = drop shown pending;
+         text_is = append_assoc played.out (take shown pending) (drop shown pending) ∙ ap (λ (text : List ℕ). played.out ++ text) (take-append-drop shown pending) ∙ played.text;
+       })))
 
 all_taken : (pending : List ℕ) → take (length pending) pending ≡ pending
 all_taken pending = take_all (length pending) pending (omega arith)
 
-pub Ends-write_fault : (script left unread before after after' : Option (List ℕ)) (world : List Account) (pending : List ℕ) (count : ℕ)
-    → IsPlayed script unread before after world pending count → AppendsFront after after' pending → Ends script left before after' WriteFault
-Ends-write_fault script left unread before after after' world pending count played sent =
-    front_written script unread before after after' world pending count sent.0 played sent.1
+pub Ends-write_fault : (script : Option (List ℕ)) (ahead : List ℕ) (left left' before after after' : Option (List ℕ)) (world : List Account) (pending : List ℕ) (count : ℕ)
+    → IsPlayed script (prepend_known ahead left) before after world pending count → TakesFront left left' → AppendsFront after after' pending → Ends script left' before after' WriteFault
+Ends-write_fault script ahead left left' before after after' world pending count played front sent =
+    front_written script ahead left left' before after after' world pending count sent.0 played front sent.1
 
-whole_front : (script unread before after after' : Option (List ℕ)) (world : List Account) (pending : List ℕ) (count : ℕ)
-    → IsPlayed script unread before after world pending count → Appends after after' pending → Writes script before after' IsFront
-whole_front script unread before after after' world pending count played written =
-    front_written script unread before after after' world pending count (length pending) played (subst (λ (text : List ℕ). Appends after after' text) (sym (all_taken pending)) written)
+whole_front : (script : Option (List ℕ)) (ahead : List ℕ) (left left' before after after' : Option (List ℕ)) (world : List Account) (pending : List ℕ) (count : ℕ)
+    → IsPlayed script (prepend_known ahead left) before after world pending count → TakesFront left left' → Appends after after' pending → WritesFront script left' before after'
+whole_front script ahead left left' before after after' world pending count played front written =
+    front_written script ahead left left' before after after' world pending count (length pending) played front (subst (λ (text : List ℕ). Appends after after' text) (sym (all_taken pending)) written)
+
+-- nothing was read, played or written
+pub Ends-none : (script before : Option (List ℕ)) → Ends script script before before Memory
+Ends-none script before = whole_front script [] script script before before before [] [] 0 (IsPlayed-none script before) (TakesFront-none script) (Appends-nil before)
 
 -- the text that was written is the one that was pending
 pub Finishes-text : (before after : Option (List ℕ)) (faults faults' : ℕ) (shown pending : List ℕ) (end result : ReplayEnd) → shown ≡ pending → Finishes before after faults faults' shown end result → Finishes before after faults faults' pending end result
 Finishes-text before after faults faults' shown pending end result same finished =
     subst (λ (text : List ℕ). Finishes before after faults faults' text end result) same finished
 
--- nothing was read, played or written
-pub Ends-none : (script left before : Option (List ℕ)) → Ends script left before before Memory
-Ends-none script left before = whole_front script (prepend_known [] script) before before before [] [] 0 (IsPlayed-none script before) (Appends-nil before)
-
 -- however the writing went, what it was to end with holds where it did, and a front was written where it failed
-ends_by : (script left unread before after after' : Option (List ℕ)) (world : List Account) (pending : List ℕ) (count faults faults' : ℕ) (end result : ReplayEnd)
-    → IsPlayed script unread before after world pending count
+ends_by : (script : Option (List ℕ)) (ahead : List ℕ) (left left' before after after' : Option (List ℕ)) (world : List Account) (pending : List ℕ) (count faults faults' : ℕ) (end result : ReplayEnd)
+    → IsPlayed script (prepend_known ahead left) before after world pending count
+    → TakesFront left left'
     → Finishes after after' faults faults' pending end result
-    → (Appends after after' pending → Ends script left before after' end)
-    → Ends script left before after' result
-ends_by script left unread before after after' world pending count faults faults' end result played (inl written) whole =
-    subst (λ (e : ReplayEnd). Ends script left before after' e) (sym written.0) (whole written.1)
-ends_by script left unread before after after' world pending count faults faults' end result played (inr failed) whole =
-    subst (λ (e : ReplayEnd). Ends script left before after' e) (sym failed.0) (Ends-write_fault script left unread before after after' world pending count played failed.1)
+    → (Appends after after' pending → Ends script left' before after' end)
+    → Ends script left' before after' result
+ends_by script ahead left left' before after after' world pending count faults faults' end result played front (inl written) whole =
+    subst (λ (e : ReplayEnd). Ends script left' before after' e) (sym written.0) (whole written.1)
+ends_by script ahead left left' before after after' world pending count faults faults' end result played front (inr failed) whole =
+    subst (λ (e : ReplayEnd). Ends script left' before after' e) (sym failed.0) (Ends-write_fault script ahead left left' before after after' world pending count played front failed.1)
 
-pub Ends-read_fault : (script left unread before after after' : Option (List ℕ)) (world : List Account) (pending : List ℕ) (count faults faults' : ℕ) (result : ReplayEnd)
-    → IsPlayed script unread before after world pending count → Finishes after after' faults faults' pending ReadFault result → Ends script left before after' result
-Ends-read_fault script left unread before after after' world pending count faults faults' result played finished =
-    ends_by script left unread before after after' world pending count faults faults' ReadFault result played finished (whole_front script unread before after after' world pending count played)
+pub Ends-read_fault : (script : Option (List ℕ)) (ahead : List ℕ) (left left' before after after' : Option (List ℕ)) (world : List Account) (pending : List ℕ) (count faults faults' : ℕ) (result : ReplayEnd)
+    → IsPlayed script (prepend_known ahead left) before after world pending count → TakesFront left left' → Finishes after after' faults faults' pending ReadFault result → Ends script left' before after' result
+Ends-read_fault script ahead left left' before after after' world pending count faults faults' result played front finished =
+    ends_by script ahead left left' before after after' world pending count faults faults' ReadFault result played front finished (whole_front script ahead left left' before after after' world pending count played front)
 
-pub Ends-memory : (script left unread before after after' : Option (List ℕ)) (world : List Account) (pending : List ℕ) (count faults faults' : ℕ) (result : ReplayEnd)
-    → IsPlayed script unread before after world pending count → Finishes after after' faults faults' pending Memory result → Ends script left before after' result
-Ends-memory script left unread before after after' world pending count faults faults' result played finished =
-    ends_by script left unread before after after' world pending count faults faults' Memory result played finished (whole_front script unread before after after' world pending count played)
+pub Ends-memory : (script : Option (List ℕ)) (ahead : List ℕ) (left left' before after after' : Option (List ℕ)) (world : List Account) (pending : List ℕ) (count faults faults' : ℕ) (result : ReplayEnd)
+    → IsPlayed script (prepend_known ahead left) before after world pending count → TakesFront left left' → Finishes after after' faults faults' pending Memory result → Ends script left' before after' result
+Ends-memory script ahead left left' before after after' world pending count faults faults' result played front finished =
+    ends_by script ahead left left' before after after' world pending count faults faults' Memory result played front finished (whole_front script ahead left left' before after after' world pending count played front)
 
 some_end : (ahead : List ℕ) (left : Option (List ℕ)) (rest : List ℕ) → prepend_known ahead left ≡ Some rest → rest ≡ [] → left ≡ Some []
 some_end ahead None rest known empty = cc
@@ -217,7 +247,7 @@ done None left unread before after after' ahead world pending count played ended
 done (Some bytes) left None before after after' ahead world pending count played ended written = absurd played.told
 done (Some bytes) None (Some rest) before after after' ahead world pending count played ended written = absurd ended
 done (Some bytes) (Some left) (Some rest) before after after' ahead world pending count played ended written =
-    let split : lines_of bytes ≡ lines_in played.events ++ [] = played.told ∙ ap (λ (lines : List (List ℕ)). lines_in played.events ++ lines) ended.0 in (
+    let split : lines_of bytes ≡ lines_in played.events ++ [] = HasPlayed-lines played.events bytes rest played.told ∙ ap (λ (lines : List (List ℕ)). lines_in played.events ++ lines) ended.0 in (
       some_end ahead (Some left) (ahead ++ left) refl ended.1,
       (
         played.out ++ pending,
@@ -233,13 +263,14 @@ done (Some bytes) (Some left) (Some rest) before after after' ahead world pendin
       ),
     )
 
-pub Ends-done : (script left unread before after after' : Option (List ℕ)) (ahead : List ℕ) (world : List Account) (pending : List ℕ) (count faults faults' : ℕ) (result : ReplayEnd)
-    → IsPlayed script unread before after world pending count
-    → IfTold unread (prepend_known ahead left) (λ bytes rest. (lines_of bytes ≡ []) × (rest ≡ []))
+pub Ends-done : (script : Option (List ℕ)) (ahead : List ℕ) (left left' before after after' : Option (List ℕ)) (ahead' : List ℕ) (world : List Account) (pending : List ℕ) (count faults faults' : ℕ) (result : ReplayEnd)
+    → IsPlayed script (prepend_known ahead left) before after world pending count
+    → TakesFront left left'
+    → IfTold (prepend_known ahead left) (prepend_known ahead' left') (λ bytes rest. (lines_of bytes ≡ []) × (rest ≡ []))
     → Finishes after after' faults faults' pending Done result
-    → Ends script left before after' result
-Ends-done script left unread before after after' ahead world pending count faults faults' result played ended finished =
-    ends_by script left unread before after after' world pending count faults faults' Done result played finished (done script left unread before after after' ahead world pending count played ended)
+    → Ends script left' before after' result
+Ends-done script ahead left left' before after after' ahead' world pending count faults faults' result played front ended finished =
+    ends_by script ahead left left' before after after' world pending count faults faults' Done result played front finished (done script left' (prepend_known ahead left) before after after' ahead' world pending count played ended)
 
 -- the next line stops the world, where its number is within the limit
 abbrev pub StopsAt : List Account → ℕ → List ℕ → Type 0
@@ -258,7 +289,7 @@ refused (Some bytes) left None before after after' world pending count played st
 refused (Some bytes) left (Some unread) before after after' world pending count played stops written =
     let line = stops.0 in
     let rest = stops.1.0 in
-    let split : lines_of bytes ≡ lines_in played.events ++ line ∷ rest = played.told ∙ ap (λ (lines : List (List ℕ)). lines_in played.events ++ lines) stops.1.1.0 in (
+    let split : lines_of bytes ≡ lines_in played.events ++ line ∷ rest = HasPlayed-lines played.events bytes unread played.told ∙ ap (λ (lines : List (List ℕ)). lines_in played.events ++ lines) stops.1.1.0 in (
       played.out ++ pending,
       (
         Appends-trans before after after' played.out pending played.appended written,
@@ -276,29 +307,31 @@ refused (Some bytes) left (Some unread) before after after' world pending count 
       ),
     )
 
-pub Ends-refused : (script left unread before after after' : Option (List ℕ)) (world : List Account) (pending : List ℕ) (count faults faults' : ℕ) (result : ReplayEnd)
-    → IsPlayed script unread before after world pending count
-    → IfSome unread (StopsAt world (count + 1))
+pub Ends-refused : (script : Option (List ℕ)) (ahead : List ℕ) (left left' before after after' : Option (List ℕ)) (world : List Account) (pending : List ℕ) (count faults faults' : ℕ) (result : ReplayEnd)
+    → IsPlayed script (prepend_known ahead left) before after world pending count
+    → TakesFront left left'
+    → IfSome (prepend_known ahead left) (StopsAt world (count + 1))
     → Finishes after after' faults faults' pending (Refused (count + 1)) result
-    → Ends script left before after' result
-Ends-refused script left unread before after after' world pending count faults faults' result played stops finished =
-    ends_by script left unread before after after' world pending count faults faults' (Refused (count + 1)) result played finished (refused script left unread before after after' world pending count played stops)
+    → Ends script left' before after' result
+Ends-refused script ahead left left' before after after' world pending count faults faults' result played front stops finished =
+    ends_by script ahead left left' before after after' world pending count faults faults' (Refused (count + 1)) result played front finished (refused script left' (prepend_known ahead left) before after after' world pending count played stops)
 
 pub StopsAt-stops : (unread : Option (List ℕ)) (world : List Account) (number : ℕ) → IfSome unread (Stops world) → IfSome unread (StopsAt world number)
 StopsAt-stops None world number stops = tt
 StopsAt-stops (Some bytes) world number stops = (stops.0, (stops.1.0, (stops.1.1.0, λ _. stops.1.1.1)))
 
 -- one line more than the limit
-pub StopsAt-past : (unread unread' : Option (List ℕ)) (world : List Account) (line : List ℕ) → IfTold unread unread' (λ bytes rest. lines_of bytes ≡ line ∷ lines_of rest) → IfSome unread (StopsAt world (most_lines + 1))
+pub StopsAt-past : (unread unread' : Option (List ℕ)) (world : List Account) (line : List ℕ) → IfTold unread unread' (TakesLine line) → IfSome unread (StopsAt world (most_lines + 1))
 StopsAt-past None unread' world line more = tt
 StopsAt-past (Some bytes) None world line more = absurd more
-StopsAt-past (Some bytes) (Some rest) world line more = (line, (lines_of rest, (more, λ within. absurd (omega (arith, within)))))
+StopsAt-past (Some bytes) (Some rest) world line more = (line, (lines_of rest, (TakesLine-first line bytes rest more, λ within. absurd (omega (arith, within)))))
 
-pub StopsAt-endless : (unread unread' : Option (List ℕ)) (world : List Account) (number : ℕ)
-    → IfTold unread unread' (λ bytes rest. BeginsLong (2 ^ 64 - 2) bytes × LosesExcess 1000 bytes rest) → IfSome unread (StopsAt world number)
-StopsAt-endless None unread' world number long = tt
-StopsAt-endless (Some bytes) None world number long = absurd long
-StopsAt-endless (Some bytes) (Some rest) world number long =
+-- a line that is too long
+pub StopsAt-overlong : (unread unread' : Option (List ℕ)) (world : List Account) (number : ℕ)
+    → IfTold unread unread' (λ bytes rest. BeginsLong 1001 bytes × LosesExcess 1000 bytes rest) → IfSome unread (StopsAt world number)
+StopsAt-overlong None unread' world number long = tt
+StopsAt-overlong (Some bytes) None world number long = absurd long
+StopsAt-overlong (Some bytes) (Some rest) world number long =
     let begins = long.0 in
     (begins.0, (begins.1.0, (begins.1.1.0, λ _. stops_bad world begins.0 (long_none begins.0 (omega (arith, begins.1.1.1))) begins.1.0)))
 

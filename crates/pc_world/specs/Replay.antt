@@ -4,7 +4,7 @@ use Rattle.std.specs.Io.KnownBytes.{Appends}
 use Rattle.pc_base.specs.declared.failure.Failed.{Failed}
 use Rattle.pc_base.specs.Stream.{AppendsFront, Rose}
 use Rattle.pc_wire.specs.Lines.{lines_of}
-use Rattle.pc_wire.specs.Reader.{IfTold}
+use Rattle.pc_wire.specs.Reader.{IfTold, TakesLine}
 use Rattle.pc_world.specs.Account.{Account}
 use Rattle.pc_world.specs.declared.replaying.ReplayEnd.{ReplayEnd}
 use Rattle.pc_world.specs.declared.replaying.ReplayEnd.TheVariants.{Done, Refused, ReadFault, WriteFault, Memory}
@@ -28,7 +28,7 @@ Stops world bytes = (line : List ℕ) × ((rest : List (List ℕ)) × ((lines_of
 -- the next line was fetched and played, from the unread bytes before to those after
 abbrev pub TakesTurn : List Account → List Account → List ℕ → List ℕ → Option (List ℕ) → Option (List ℕ) → Turn → Type 0
 TakesTurn old new text text' before after turn.Played =
-    (line : List ℕ) × (IfTold before after (λ bytes rest. lines_of bytes ≡ line ∷ lines_of rest) × PlaysLine old new text text' line turn.Played)
+    (line : List ℕ) × (IfTold before after (TakesLine line) × PlaysLine old new text text' line turn.Played)
 TakesTurn old new text text' before after turn.Ended =
     IfTold before after (λ bytes rest. (lines_of bytes ≡ []) × (rest ≡ [])) × (text' ≡ text)
 TakesTurn old new text text' before after turn.Refused = IfSome before (Stops old) × (text' ≡ text)
@@ -49,13 +49,18 @@ Finishes before after faults faults' text end result =
 abbrev pub Writes : Option (List ℕ) → Option (List ℕ) → Option (List ℕ) → (List ℕ → List ℕ → Type 0) → Type 0
 Writes script before after Fact = IfSome script (λ bytes. (text : List ℕ) × (Appends before after text × Fact bytes text))
 
+-- the bytes appended to the output are a front of what the events print in the front of the script that was read, where the input tells it
+abbrev pub WritesFront : Option (List ℕ) → Option (List ℕ) → Option (List ℕ) → Option (List ℕ) → Type 0
+WritesFront script left before after =
+    IfTold script left (λ bytes rest. (read : List ℕ) × ((text : List ℕ) × ((bytes ≡ read ++ rest) × Appends before after text × IsFront read text)))
+
 -- the input from `script` to `left` and the output from `before` to `after`, by how the replay ended
 abbrev pub Ends : Option (List ℕ) → Option (List ℕ) → Option (List ℕ) → Option (List ℕ) → ReplayEnd → Type 0
 Ends script left before after Done = IfSome script (λ _. left ≡ Some []) × Writes script before after IsRun
 Ends script left before after (Refused line) = Writes script before after (λ bytes text. IsRefused bytes line text)
-Ends script left before after ReadFault = Writes script before after IsFront
-Ends script left before after WriteFault = Writes script before after IsFront
-Ends script left before after Memory = Writes script before after IsFront
+Ends script left before after ReadFault = WritesFront script left before after
+Ends script left before after WriteFault = WritesFront script left before after
+Ends script left before after Memory = WritesFront script left before after
 
 -- the script was played to its end, or memory was wanted
 abbrev pub IsComplete : ReplayEnd → Type 0

@@ -3,7 +3,7 @@
 ghost use Rattle.std.specs.Prelude.{◌≡◌, ℕ, ◌≤◌, List, [], ◌++◌, OnOk, OnErr, length, take};
 ghost use Rattle.pc_base.specs.Stream.{Rose, HasCause};
 ghost use Rattle.pc_wire.specs.Next.{ShowsLine};
-ghost use Rattle.pc_wire.specs.Reader.{no_line, unread};
+ghost use Rattle.pc_wire.specs.Reader.{TakesFront, no_line, unread};
 ghost use Rattle.pc_world.specs.Replay.{PlaysLine, TakesTurn, Finishes, Sends, Ends, Completes};
 ghost use Rattle.pc_world.specs.Runs.{text_of};
 
@@ -101,7 +101,7 @@ fn play_lines<S: Source, K: Sink>(
     match lines.fetch(input) {
         Ok(Fetched::End) => finish(output, text, ReplayEnd::Done),
         Ok(Fetched::Waits) => finish(output, text, PAST),
-        Ok(Fetched::Endless) => finish(output, text, PAST),
+        Ok(Fetched::Overlong) => finish(output, text, PAST),
         Err(_) => finish(output, text, ReplayEnd::ReadFault),
     }
 }
@@ -141,6 +141,7 @@ fn play_next<S: Source>(
     requires waits { lines.old.waits ≡ no_line }
     requires limit { lines.old.limit ≡ 1000 }
     ensures turn { TakesTurn world.old world.new text.old.items text.new.items (unread lines.old (S.left input.old)) (unread lines.new (S.left input.new)) result }
+    ensures front { TakesFront (S.left input.old) (S.left input.new) }
     ensures cause { result ≡ Turn.ReadFault → Rose (S.faults input.old) (S.faults input.new) }
     ensures count { S.faults input.old ≤ S.faults input.new }
     ensures waits { lines.new.waits ≡ no_line }
@@ -149,7 +150,7 @@ fn play_next<S: Source>(
     match lines.fetch(input) {
         Ok(Fetched::Waits) => {}
         Ok(Fetched::End) => return Turn::Ended,
-        Ok(Fetched::Endless) => return Turn::Refused,
+        Ok(Fetched::Overlong) => return Turn::Refused,
         Err(_) => return Turn::ReadFault,
     }
     let turn = play_shown(alloc, lines.line(), world, text);

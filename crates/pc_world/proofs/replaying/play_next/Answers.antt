@@ -1,7 +1,6 @@
 use Rattle.std.proofs.Common.{◌≡◌, ℕ, sym, ap, ◌∙◌, subst, ◌∷◌}
-use Rattle.pc_wire.specs.Lines.{lines_of}
 use Rattle.pc_wire.specs.Next.{ShowsLine}
-use Rattle.pc_wire.specs.Reader.{ReaderState, IfTold, unread, waiting}
+use Rattle.pc_wire.specs.Reader.{ReaderState, IfTold, TakesLine, unread, waiting}
 use Rattle.pc_world.specs.Replay.{PlaysLine}
 use Rattle.pc_world.proofs.Turns.{TakesTurn-plays, no_fault}
 use Rattle.pc_world.proofs.replaying.play_next.Given.{Over}
@@ -20,7 +19,7 @@ played g c =
 pub returns-clause-turn : goal.returns-clause-turn
 returns-clause-turn g c =
     let fetched = rw c.in-Ok-Waits.field-0-is at c.in-Ok-Waits.ensures.lines in
-    let P : ReaderState → Type 0 = λ state. IfTold (unread c.args.lines.now (g.S.Source.left c.args.input.now)) (unread state (g.S.Source.left c.fetch.new.source)) (λ bytes rest. lines_of bytes ≡ fetched.0 ∷ lines_of rest) in
+    let P : ReaderState → Type 0 = λ state. IfTold (unread c.args.lines.now (g.S.Source.left c.args.input.now)) (unread state (g.S.Source.left c.fetch.new.source)) (TakesLine fetched.0) in
     TakesTurn-plays _ _ _ _ _ _ fetched.0 c.play_shown-turn.result (subst P (sym c.consume.ensures) fetched.1.1) (played g c)
 
 pub returns-clause-cause : goal.returns-clause-cause
