@@ -2,8 +2,8 @@ pub mod Asking
 pub mod Chains
 pub mod OfForm
 pub mod OneEvent
-pub mod OneStep
 pub mod OneOutcome
+pub mod OneStep
 pub mod Playing
 mod Samples
 pub mod Stopped

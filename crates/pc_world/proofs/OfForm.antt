@@ -5,6 +5,7 @@ use Rattle.pc_world.proofs.Chains.{lines_in-push, Chain-push, plays_first}
 use Rattle.pc_world.specs.Account.{Account}
 use Rattle.pc_world.specs.Runs.{Chain, Begins, IsRun, IsRefused, IsOfForm, lines_in, text_of, most_lines}
 
+-- no line of it stops the world, and there are few of them
 pub not_refused : (script : List ℕ) (number : ℕ) (text : List ℕ) → IsOfForm script → IsRefused script number text → ⊥
 not_refused script number text form refusal =
     refusal.stops (omega (arith, form.few, refusal.number_is)) (form.goes_on refusal.line refusal.rest refusal.printed refusal.last refusal.begins)
