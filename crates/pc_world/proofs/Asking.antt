@@ -1,5 +1,5 @@
 -- A text asks for one thing alone.
-use Rattle.std.proofs.Common.{◌≡◌, ℕ, ◌<◌, ◌≤◌, List, length, Result, Ok, Err, Some, refl, arith}
+use Rattle.std.proofs.Common.{◌≡◌, ℕ, ◌≤◌, List, length, Result, Ok, Err, Some, refl, arith}
 use Rattle.pc_request.specs.Fault.{fault_of}
 use Rattle.pc_request.specs.Request.{IsRequest}
 use Rattle.pc_request.specs.declared.request.Request.{Request}

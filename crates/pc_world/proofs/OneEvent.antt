@@ -1,5 +1,5 @@
 -- A line that isn't silent is one event at most.
-use Rattle.std.proofs.Common.{◌≡◌, ℕ, true, false, List, sym, ◌∙◌}
+use Rattle.std.proofs.Common.{◌≡◌, ℕ, false, List, sym, ◌∙◌}
 use Rattle.std.proofs.lemmas.Bool.{false≢true}
 use Rattle.pc_world.specs.Events.{IsEventLine, IsSaid, is_silent}
 use Rattle.pc_world.specs.declared.event.Event.{Event}

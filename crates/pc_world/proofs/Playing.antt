@@ -1,43 +1,26 @@
 -- What a replay keeps from line to line, and what it comes to at each end.
-use Rattle.std.proofs.Common.{◌≡◌, ℕ, ◌+◌, ◌-◌, ◌^◌, ◌≤◌, ◌<◌, Bool, true, false, IsTrue, is_some, List, [], ◌∷◌, ◌++◌, length, take, drop, Option, Some, None, IfSome, MatchOption, Result, Ok, Err, IsOk, ◌⊎◌, inl, inr, refl, sym, ap, ◌∙◌, subst, arith, lit≤, append-nil, append_assoc, length-append}
+use Rattle.std.proofs.Common.{◌≡◌, ℕ, ◌+◌, ◌≤◌, ◌<◌, List, [], ◌∷◌, ◌++◌, length, take, drop, Option, Some, None, IfSome, Result, Ok, Err, IsOk, inl, inr, refl, sym, ap, ◌∙◌, subst, arith, lit≤, append-nil, append_assoc, length-append}
 use Rattle.std.proofs.lemmas.List.{take-append-drop, take_all}
 use Rattle.std.proofs.lemmas.List.Concat.{flat_map-append}
 use Rattle.std.specs.Io.KnownBytes.{Appends, prepend_known}
 use Rattle.std.proofs.KnownBytes.{Appends-nil, Appends-trans}
 use Rattle.std.proofs.lemmas.Bool.{false≢true}
 use Rattle.pc_base.specs.declared.failure.Failed.{Failed}
-use Rattle.pc_base.specs.Stream.{AppendsFront, Rose}
+use Rattle.pc_base.specs.Stream.{AppendsFront}
 use Rattle.pc_wire.specs.Lines.{lines_of}
 use Rattle.pc_wire.specs.Reader.{ReaderState, IfTold, TakesLine, TakesFront, BeginsLong, LosesExcess, no_line, unread}
 use Rattle.pc_wire.proofs.ReaderLemmas.{TakesFront-none, TakesLine-leads, TakesLine-first}
+use Rattle.pc_world.proofs.Chains.{lines_in-push, Chain-push}
+use Rattle.pc_world.proofs.OfForm.{not_refused}
 use Rattle.pc_world.proofs.Stopped.{stops_bad, long_none}
 use Rattle.pc_world.specs.Account.{Account}
-use Rattle.pc_world.specs.Runs.{Plays, Chain, Begins, GoesOn, IsRun, IsOfForm, IsRefused, lines_in, text_of, ended, most_lines}
-use Rattle.pc_world.specs.Replay.{Stops, Finishes, Sends, Writes, WritesFront, Ends, Completes, IsComplete, Refuses, Tells}
+use Rattle.pc_world.specs.Runs.{Plays, Chain, GoesOn, IsRun, IsRefused, lines_in, text_of, ended, most_lines}
+use Rattle.pc_world.specs.Replay.{Stops, Finishes, Sends, WritesFront, Ends, Completes, Refuses}
 use Rattle.pc_world.specs.declared.replaying.ReplayEnd.{ReplayEnd}
 use Rattle.pc_world.specs.declared.replaying.ReplayEnd.TheVariants.{Done, Refused, ReadFault, WriteFault, Memory}
 
 text_of-append : (lines more : List (List ℕ)) → text_of (lines ++ more) ≡ text_of lines ++ text_of more
 text_of-append lines more = flat_map-append ended lines more
-
-lines_in-push : (events : List (List (List ℕ))) (event : List (List ℕ)) → lines_in (events ++ event ∷ []) ≡ lines_in events ++ event
-lines_in-push [] event = append-nil event
-lines_in-push (first ∷ others) event =
-    ap (λ (lines : List (List ℕ)). first ++ lines) (lines_in-push others event) ∙ sym (append_assoc first (lines_in others) event)
-
--- a chain with one more event behind
-Chain-push : (old : List Account) (events : List (List (List ℕ))) (printed : List (List ℕ)) (middle : List Account) (event first : List (List ℕ)) (new : List Account)
-    → Chain old events printed middle → Plays middle event first new → Chain old (events ++ event ∷ []) (printed ++ first) new
-Chain-push old [] printed middle event first new chain plays =
-    let P : List (List ℕ) → Type 0 = λ lines. Chain old (event ∷ []) (lines ++ first) new in
-    let Q : List Account → Type 0 = λ world. Plays world event first new in
-    subst P (sym chain.0) (first, (new, ([], (sym (append-nil first), subst Q chain.1 plays, (refl, refl)))))
-Chain-push old (earlier ∷ events) printed middle event first new chain plays =
-    let shown = chain.0 in
-    let next = chain.1.0 in
-    let others = chain.1.1.0 in
-    let rest = chain.1.1.1 in
-    (shown, (next, (others ++ first, (ap (λ (lines : List (List ℕ)). lines ++ first) rest.0 ∙ append_assoc shown others first, rest.1, Chain-push next events others middle event first new rest.2 plays))))
 
 -- the bytes before the rest have the events' lines, and in front of every part of the rest they do, too
 pub record HasPlayed (events : List (List (List ℕ))) (bytes rest : List ℕ) : Type 0 where
@@ -340,17 +323,13 @@ StopsAt-overlong (Some bytes) (Some rest) world number long =
     let begins = long.0 in
     (begins.0, (begins.1.0, (begins.1.1.0, λ _. stops_bad world begins.0 (long_none begins.0 (omega (arith, begins.1.1.1))) begins.1.0)))
 
--- what succeeds follows from how a replay may end, and from the causes of the failures
-not_refused : (bytes text : List ℕ) (number : ℕ) → IsOfForm bytes → IsRefused bytes number text → ⊥
-not_refused bytes text number form refusal =
-    refusal.stops (omega (arith, form.few, refusal.number_is)) (form.goes_on refusal.line refusal.rest refusal.printed refusal.last refusal.begins)
-
+-- what succeeds, and which refusal comes, follow from how a replay may end and from the causes of the failures
 pub Completes-ends : (script left before after : Option (List ℕ)) (ReadRose WriteRose : Type 0) (end : ReplayEnd)
     → Ends script left before after end → (end ≡ ReadFault → ReadRose) → (end ≡ WriteFault → WriteRose) → Completes script ReadRose WriteRose end
 Completes-ends None left before after ReadRose WriteRose end ends read write = tt
 Completes-ends (Some bytes) left before after ReadRose WriteRose Done ends read write = λ form still_read still_written. tt
 Completes-ends (Some bytes) left before after ReadRose WriteRose Memory ends read write = λ form still_read still_written. tt
-Completes-ends (Some bytes) left before after ReadRose WriteRose (Refused number) ends read write = λ form still_read still_written. not_refused bytes ends.0 number form ends.1.1
+Completes-ends (Some bytes) left before after ReadRose WriteRose (Refused number) ends read write = λ form still_read still_written. not_refused bytes number ends.0 form ends.1.1
 Completes-ends (Some bytes) left before after ReadRose WriteRose ReadFault ends read write = λ form still_read still_written. still_read (read refl)
 Completes-ends (Some bytes) left before after ReadRose WriteRose WriteFault ends read write = λ form still_read still_written. still_written (write refl)
 

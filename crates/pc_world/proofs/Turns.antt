@@ -1,5 +1,5 @@
 -- One turn of a replay, from what was fetched and what was played.
-use Rattle.std.proofs.Common.{◌≡◌, ℕ, ◌∷◌, [], List, Option, Some, None, IfSome}
+use Rattle.std.proofs.Common.{◌≡◌, ℕ, ◌∷◌, List, Option, Some, None, IfSome}
 use Rattle.pc_wire.specs.Lines.{lines_of}
 use Rattle.pc_wire.specs.Reader.{IfTold, TakesLine}
 use Rattle.pc_wire.proofs.ReaderLemmas.{TakesLine-first}

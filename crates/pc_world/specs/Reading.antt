@@ -1,5 +1,5 @@
 -- What reading the words of a line gives.
-use Rattle.std.specs.Prelude.{◌≡◌, ℕ, IsTrue, List, [], ◌∷◌, Option, Some, None, codes}
+use Rattle.std.specs.Prelude.{◌≡◌, ℕ, IsTrue, List, [], ◌∷◌, Option, Some, None}
 use Rattle.pc_base.specs.Name.{is_name, is_password}
 use Rattle.pc_wire.specs.Words.{words_of, without_spaces, after_word}
 use Rattle.pc_world.specs.declared.event.Event.{Event}

@@ -1,5 +1,5 @@
 -- What a repository of one thread answers to what is asked in a session without client.
-use Rattle.std.specs.Prelude.{◌≡◌, ℕ, List, [], ◌∷◌, ◌++◌, map, codes, decimal, Option, Some, None, Result, Ok, Err}
+use Rattle.std.specs.Prelude.{ℕ, List, [], ◌++◌, map, codes, decimal, Option, None, Result, Ok, Err}
 use Rattle.pc_base.specs.Refusal.{head_of}
 use Rattle.pc_base.specs.declared.refusal.Refusal.{Refusal}
 use Rattle.pc_base.specs.declared.refusal.Refusal.TheVariants as refusal

@@ -1,5 +1,5 @@
 -- Runs of scripts: chains of steps from a world without users, and what they print.
-use Rattle.std.specs.Prelude.{◌≡◌, ℕ, ◌+◌, ◌<◌, ◌≤◌, List, [], ◌∷◌, ◌++◌, length}
+use Rattle.std.specs.Prelude.{◌≡◌, ℕ, ◌+◌, ◌≤◌, List, [], ◌∷◌, ◌++◌, length}
 use Rattle.std.specs.List.{flat_map}
 use Rattle.pc_wire.specs.Lines.{lines_of}
 use Rattle.pc_world.specs.declared.event.Event.{Event}

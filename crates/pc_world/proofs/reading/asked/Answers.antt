@@ -1,5 +1,5 @@
-use Rattle.std.proofs.Common.{Ok, Err, sym, ap, ◌∙◌}
-use Rattle.pc_world.proofs.Asking.{asked_of, asked_once}
+use Rattle.std.proofs.Common.{Ok, Err}
+use Rattle.pc_world.proofs.Asking.{asked_once}
 use Rattle.pc_world.proofs.reading.asked.Goals as goal
 
 pub returns-in-Ok-clause-only : goal.returns-in-Ok-clause-only

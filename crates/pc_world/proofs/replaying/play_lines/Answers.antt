@@ -1,6 +1,6 @@
-use Rattle.std.proofs.Common.{◌≡◌, ◌≤◌, ◌+◌, ℕ, List, sym, ap, ◌∙◌, subst, refl, Ok, arith}
+use Rattle.std.proofs.Common.{◌≡◌, ◌+◌, ap, refl, Ok, arith}
 use Rattle.pc_wire.proofs.ReaderLemmas.{TakesFront-none}
-use Rattle.pc_wire.specs.Reader.{ReaderState, unread}
+use Rattle.pc_wire.specs.Reader.{ReaderState}
 use Rattle.pc_world.specs.Runs.{most_lines}
 use Rattle.pc_world.specs.declared.replaying.ReplayEnd.TheVariants.{Done, Refused, ReadFault, Memory}
 use Rattle.pc_world.proofs.Playing.{IsPlayed-start, IsPlayed-count, IsPlayed-more, IsPlayed-passed, Finishes-text, Ends-done, Ends-refused, Ends-read_fault, Ends-memory, Ends-write_fault, StopsAt-stops, StopsAt-past, StopsAt-overlong}

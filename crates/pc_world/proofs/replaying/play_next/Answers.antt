@@ -1,4 +1,4 @@
-use Rattle.std.proofs.Common.{◌≡◌, ℕ, sym, ap, ◌∙◌, subst, ◌∷◌}
+use Rattle.std.proofs.Common.{◌≡◌, ℕ, sym, ap, ◌∙◌, subst}
 use Rattle.pc_wire.specs.Next.{ShowsLine}
 use Rattle.pc_wire.specs.Reader.{ReaderState, IfTold, TakesLine, unread, waiting}
 use Rattle.pc_world.specs.Replay.{PlaysLine}

@@ -1,5 +1,5 @@
 -- Behind the first line stand the lines of the list so far.
-use Rattle.std.proofs.Common.{◌≡◌, ◌∷◌, [], ◌++◌, map, take, codes}
+use Rattle.std.proofs.Common.{◌≡◌, ◌∷◌, ◌++◌, map, take, codes}
 use Rattle.pc_world.specs.Steps.{indented}
 use Rattle.pc_world.proofs.world.printed_reply.Given as goal
 
