@@ -1,2 +1,9 @@
 pub mod Flags
 pub mod Entry
+pub mod Table
+pub mod Record
+pub mod Effect
+pub mod Known
+pub mod History
+pub mod Allowed
+pub mod Limits
