@@ -1,16 +1,12 @@
 -- Histories of an account, and their answers.
 use Rattle.std.specs.Prelude.{ℕ, List, [], ◌∷◌, Option}
 use Rattle.std.specs.Map.{lookup}
-use Rattle.std.specs.List.{filter_map}
-use Rattle.pc_history.specs.declared.kept.Kept.{Kept}
-use Rattle.pc_history.specs.declared.kept.Listed.{Listed}
 use Rattle.pc_history.specs.declared.entry.Entry.{Entry}
-use Rattle.pc_history.specs.Table.{same, is_among, numbers}
+use Rattle.pc_history.specs.Table.{same}
 use Rattle.pc_history.specs.Record.{AccountRecord, empty_record}
 use Rattle.pc_history.specs.Known.{Known, said_by, after_entry}
 
 infixl 20 ◌▸◌
-
 -- a base, which is a record with the number of the first entry behind it, and entries, the newest last
 pub data History : Type 0 where
   start : AccountRecord → ℕ → History

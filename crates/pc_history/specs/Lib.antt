@@ -7,3 +7,4 @@ pub mod Known
 pub mod History
 pub mod Allowed
 pub mod Limits
+pub mod Samples

@@ -10,9 +10,13 @@ use pc_message::Letters;
 #[derive(Drop)]
 pub enum Entry {
     /// A mailbox is made, or made again.
-    MakeMailbox { mailbox: Name },
+    MakeMailbox {
+        mailbox: Name,
+    },
     /// A mailbox is deleted with its messages.
-    DropMailbox { mailbox: Name },
+    DropMailbox {
+        mailbox: Name,
+    },
     /// A flag of a message is set to a value.
     Flag {
         mailbox: Name,
@@ -21,7 +25,9 @@ pub enum Entry {
         on: bool,
     },
     /// The messages whose flag 0 is on are taken away.
-    Expunge { mailbox: Name },
+    Expunge {
+        mailbox: Name,
+    },
     /// A message is copied into a mailbox.
     Copy {
         mailbox: Name,
@@ -29,13 +35,22 @@ pub enum Entry {
         target: Name,
     },
     /// A client is made, or made anew.
-    MakeClient { client: Name },
+    MakeClient {
+        client: Name,
+    },
     /// A client is taken away.
-    DropClient { client: Name },
+    DropClient {
+        client: Name,
+    },
     /// All that lives is put on the lists of a client.
-    ResetClient { client: Name },
+    ResetClient {
+        client: Name,
+    },
     /// All that lives in a mailbox is put on the list of a client.
-    ResetMailbox { client: Name, mailbox: Name },
+    ResetMailbox {
+        client: Name,
+        mailbox: Name,
+    },
     /// A client has taken these changes.
     Forget {
         client: Name,
@@ -43,15 +58,27 @@ pub enum Entry {
         uids: Uids,
     },
     /// Mails are taken from the office, up to the one with this number.
-    Pull { upto: u64, letters: Letters },
+    Pull {
+        upto: u64,
+        letters: Letters,
+    },
     /// The digest of the password.
-    Password { digest: [u8; 32] },
+    Password {
+        digest: [u8; 32],
+    },
     /// A board is subscribed to.
-    Subscribe { board: Name },
+    Subscribe {
+        board: Name,
+    },
     /// A subscription ends.
-    Unsubscribe { board: Name },
+    Unsubscribe {
+        board: Name,
+    },
     /// The last uid of a board that was read.
-    Mark { board: Name, uid: u32 },
+    Mark {
+        board: Name,
+        uid: u32,
+    },
 }
 
 impl Entry {

@@ -5,8 +5,12 @@ mod entry;
 mod flags;
 mod kept;
 mod limits;
+pub mod samples;
 
 pub use entry::Entry;
 pub use flags::{is_on, with_flag};
 pub use kept::{Kept, Listed};
-pub use limits::{LAST_MAIL, MOST_CHANGES, MOST_CLIENTS, MOST_LETTERS, MOST_MAILBOXES, MOST_MESSAGES, MOST_SUBSCRIPTIONS, MOST_UIDS, MOST_WEIGHT};
+pub use limits::{
+    LAST_MAIL, MOST_CHANGES, MOST_CLIENTS, MOST_LETTERS, MOST_MAILBOXES, MOST_MESSAGES,
+    MOST_SUBSCRIPTIONS, MOST_UIDS, MOST_WEIGHT,
+};
