@@ -1,13 +1,13 @@
 -- What one entry does, as small functions of it.
 use Rattle.std.specs.Prelude.{ℕ, ◌==◌, Bool, false, ◌&&◌, List, [], ◌∷◌, ◌++◌, map, length, slice_get, Option, None, Some, if◌then◌else◌}
 use Rattle.std.specs.Option.{option_map}
-use Rattle.std.specs.List.{filter, list_any}
+use Rattle.std.specs.List.{filter}
 use Rattle.std.specs.Map.{set_value}
 use Rattle.pc_history.specs.declared.kept.Kept.{Kept}
 use Rattle.pc_history.specs.declared.entry.Entry.{Entry}
 use Rattle.pc_history.specs.declared.entry.Entry.TheVariants.{MakeMailbox, DropMailbox, Flag, Expunge, Copy, MakeClient, DropClient, ResetClient, ResetMailbox, Forget, Pull, Password, Subscribe, Unsubscribe, Mark}
 use Rattle.pc_history.specs.Flags.{flag_of, flags_with}
-use Rattle.pc_history.specs.Table.{same, other_names, others}
+use Rattle.pc_history.specs.Table.{same, other_names, others, has_number}
 
 -- the messages of the letters to a mailbox, in order
 abbrev pub letters_to : List ℕ → List (List ℕ × List (List ℕ)) → List (List (List ℕ))
@@ -62,7 +62,7 @@ begins _ client = false
 
 -- the entry says that a client has taken the change of a uid
 abbrev pub forgets : Entry → List ℕ → List ℕ → ℕ → Bool
-forgets (Forget taker within uids) client mailbox uid = same taker client && same within mailbox && list_any (λ taken. taken == uid) uids
+forgets (Forget taker within uids) client mailbox uid = same taker client && same within mailbox && has_number uid uids
 forgets _ client mailbox uid = false
 
 -- the clients with their births, where the entry has this number

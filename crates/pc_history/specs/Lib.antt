@@ -7,4 +7,6 @@ pub mod Known
 pub mod History
 pub mod Allowed
 pub mod Limits
+pub mod Step
+pub mod Legal
 pub mod Samples

@@ -1,6 +1,6 @@
 -- How much an account may have, and which limit an entry would pass first.
-use Rattle.std.specs.Prelude.{ℕ, ◌+◌, Bool, true, false, not, nat_lt, nat_le, List, ◌++◌, length, Option, None, Some, if◌then◌else◌}
-use Rattle.std.specs.List.{list_all}
+use Rattle.std.specs.Prelude.{ℕ, ◌+◌, Bool, true, false, not, nat_lt, nat_le, List, [], ◌∷◌, ◌++◌, length, Option, None, if◌then◌else◌}
+use Rattle.std.specs.List.{list_all, find}
 use Rattle.pc_base.specs.declared.refusal.LimitWord.{LimitWord}
 use Rattle.pc_base.specs.declared.refusal.LimitWord.TheVariants as limit
 use Rattle.pc_message.specs.Message.{size_of}
@@ -28,17 +28,20 @@ weight k = total (λ mailbox. total weight_of (messages k mailbox)) k.live
 abbrev pub listed_count : Known → ℕ
 listed_count k = total (λ mailbox. total (λ client. length (k.changes client.0 mailbox)) k.clients) (mailbox_names k)
 
--- the limits in their order: the first that is passed
-abbrev pub first_passed : Known → Option LimitWord
-first_passed k =
-    if nat_lt MOST_CLIENTS (length k.clients) then Some limit.Clients
-    else (if nat_lt MOST_MAILBOXES (length (mailbox_names k)) then Some limit.Mailboxes
-    else (if not (list_all (λ mailbox. nat_le (k.highest mailbox) MOST_UIDS) (mailbox_names k)) then Some limit.Uids
-    else (if not (list_all (λ mailbox. nat_le (length (messages k mailbox)) MOST_MESSAGES) k.live) then Some limit.Messages
-    else (if nat_lt MOST_WEIGHT (weight k) then Some limit.Bytes
-    else (if nat_lt MOST_CHANGES (listed_count k) then Some limit.Changes
-    else (if nat_lt MOST_SUBSCRIPTIONS (length k.subscriptions) then Some limit.Subscriptions
-    else None))))))
+-- a limit is passed
+abbrev pub is_passed : Known → LimitWord → Bool
+is_passed k limit.Clients = nat_lt MOST_CLIENTS (length k.clients)
+is_passed k limit.Mailboxes = nat_lt MOST_MAILBOXES (length (mailbox_names k))
+is_passed k limit.Uids = not (list_all (λ mailbox. nat_le (k.highest mailbox) MOST_UIDS) (mailbox_names k))
+is_passed k limit.Messages = not (list_all (λ mailbox. nat_le (length (messages k mailbox)) MOST_MESSAGES) k.live)
+is_passed k limit.Bytes = nat_lt MOST_WEIGHT (weight k)
+is_passed k limit.Changes = nat_lt MOST_CHANGES (listed_count k)
+is_passed k limit.Subscriptions = nat_lt MOST_SUBSCRIPTIONS (length k.subscriptions)
+is_passed k _ = false
+
+-- the limits of an account, in the order in which they are told
+abbrev pub limits_in_order : List LimitWord
+limits_in_order = limit.Clients ∷ limit.Mailboxes ∷ limit.Uids ∷ limit.Messages ∷ limit.Bytes ∷ limit.Changes ∷ limit.Subscriptions ∷ []
 
 -- entries that raise none of these numbers, and so are held to no limit
 abbrev pub raises_nothing : Entry → Bool
@@ -51,4 +54,4 @@ raises_nothing _ = false
 
 -- the limit that an entry would pass first
 abbrev pub limit_passed : Known → Entry → Option LimitWord
-limit_passed k e = if raises_nothing e then None else first_passed (after_entry k e)
+limit_passed k e = if raises_nothing e then None else find (is_passed (after_entry k e)) limits_in_order

@@ -24,6 +24,10 @@ abbrev pub map_values : {X Y : Type 0} → (List ℕ → X → Y) → List (List
 map_values f [] = []
 map_values f (entry ∷ table) = (entry.0, f entry.0 entry.1) ∷ map_values f table
 
+-- a number is among these
+abbrev pub has_number : ℕ → List ℕ → Bool
+has_number number all = list_any (λ other. other == number) all
+
 -- as many numbers, from the one after `low` on
 abbrev pub numbers : ℕ → ℕ → List ℕ
 numbers low zero = []
