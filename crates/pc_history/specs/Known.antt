@@ -77,7 +77,7 @@ listed_after k e client mailbox uid = if stamps k e client mailbox uid then Some
 
 -- the entry leaves a listed uid where it stands on the list
 abbrev pub stays : Known → Entry → List ℕ → List ℕ → ℕ → Bool
-stays k e client mailbox uid = not (stamps k e client mailbox uid) && not (begins e client || forgets e client mailbox uid)
+stays k e client mailbox uid = not (begins e client || forgets e client mailbox uid) && not (stamps k e client mailbox uid)
 
 -- what stays on the list, and behind it the uids that are touched, rising
 abbrev pub changes_after : Known → Entry → List ℕ → List ℕ → List Listed

@@ -30,7 +30,7 @@ empty_record = record { pulled = 0; digest = None; clients = []; live = []; drop
 
 -- a mailbox that was never made
 abbrev pub new_mailbox : List (List ℕ × ℕ) → MailboxRecord
-new_mailbox clients = record { highest = 0; messages = []; lists = map_values (λ _ _. []) clients }
+new_mailbox clients = record { highest = 0; messages = []; lists = map_values (λ _. []) clients }
 
 -- what stands under a mailbox name
 abbrev pub mailbox_of : AccountRecord → List ℕ → MailboxRecord

@@ -30,7 +30,7 @@ uids_of messages = map (λ kept. kept.uid) messages
 
 -- a mailbox once these uids are touched for every client
 abbrev pub touched_for_all : ℕ → List ℕ → MailboxRecord → MailboxRecord
-touched_for_all number uids box = record box { lists = map_values (λ _ list. touched number uids list) box.lists }
+touched_for_all number uids box = record box { lists = map_values (touched number uids) box.lists }
 
 -- a mailbox once all that lives is touched for one client
 abbrev pub reset_for : ℕ → List ℕ → MailboxRecord → MailboxRecord
@@ -70,7 +70,7 @@ at_mailbox mailbox change r = record r { live = set_value (same mailbox) r.live 
 
 -- the record once every mailbox is changed, and the clients with it
 abbrev pub at_all : List (List ℕ × ℕ) → (MailboxRecord → MailboxRecord) → AccountRecord → AccountRecord
-at_all clients change r = record r { clients = clients; live = map_values (λ _ box. change box) r.live; dropped = map_values (λ _ box. change box) r.dropped }
+at_all clients change r = record r { clients = clients; live = map_values change r.live; dropped = map_values change r.dropped }
 
 -- the record with a letter in its mailbox
 abbrev pub with_letter : ℕ → List ℕ × List (List ℕ) → AccountRecord → AccountRecord

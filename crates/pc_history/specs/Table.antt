@@ -20,9 +20,9 @@ abbrev pub others : {X : Type 0} → List ℕ → List (List ℕ × X) → List 
 others name table = filter (λ entry. not (same name entry.0)) table
 
 -- the same names, each with what the function makes of its value
-abbrev pub map_values : {X Y : Type 0} → (List ℕ → X → Y) → List (List ℕ × X) → List (List ℕ × Y)
+abbrev pub map_values : {X Y : Type 0} → (X → Y) → List (List ℕ × X) → List (List ℕ × Y)
 map_values f [] = []
-map_values f (entry ∷ table) = (entry.0, f entry.0 entry.1) ∷ map_values f table
+map_values f (entry ∷ table) = (entry.0, f entry.1) ∷ map_values f table
 
 -- a number is among these
 abbrev pub has_number : ℕ → List ℕ → Bool

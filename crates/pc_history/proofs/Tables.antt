@@ -1,0 +1,74 @@
+-- Look-ups in tables that were changed.
+use Rattle.std.proofs.Common.{◌≡◌, ℕ, Bool, true, false, cond, not, ◌||◌, List, [], ◌∷◌, ◌++◌, map, Option, None, Some, is_some, unwrap_or, option_map, refl, sym, ◌∙◌, ap, true≢false}
+use Rattle.std.specs.Cmp.Lexicographic.{bytes_decides}
+use Rattle.std.specs.Map.{lookup, keys_of, set_value}
+use Rattle.std.proofs.lemmas.Cmp.{nat_list_eq_equiv}
+use Rattle.pc_history.specs.Table.{same, is_among, other_names, others, map_values}
+
+pub same-refl : (name : List ℕ) → same name name ≡ true
+same-refl name = (bytes_decides name name).1 refl
+
+pub same-true : (name other : List ℕ) → same name other ≡ true → name ≡ other
+same-true name other h = (bytes_decides name other).0 h
+
+pub same-sym : (name other : List ℕ) → same name other ≡ same other name
+same-sym name other = nat_list_eq_equiv.symm name other
+
+-- the first of two that is there
+abbrev pub or_else : {X : Type 0} → Option X → Option X → Option X
+or_else None other = other
+or_else (Some x) other = Some x
+
+cond_same : {X : Type 0} (b : Bool) (x : X) → x ≡ cond b x x
+cond_same true x = refl
+cond_same false x = refl
+
+module _ {X : Type 0} where
+  pub lookup-append : (p : List ℕ → Bool) (table more : List (List ℕ × X)) → lookup p (table ++ more) ≡ or_else (lookup p table) (lookup p more)
+  lookup-append p [] more = refl
+  lookup-append p (entry ∷ table) more = elim (p entry.0) as (λ b. cond b (Some entry.1) (lookup p (table ++ more)) ≡ or_else (cond b (Some entry.1) (lookup p table)) (lookup p more)) [ true ↦ refl | false ↦ lookup-append p table more ]
+
+  others-step : (name asked : List ℕ) (key : List ℕ) (value : X) (rest : List (List ℕ × X)) (found : Option X) (a b : Bool) → same name key ≡ a → same asked key ≡ b → lookup (same asked) rest ≡ cond (same name asked) None found → lookup (same asked) (cond (not a) ((key, value) ∷ rest) rest) ≡ cond (same name asked) None (cond b (Some value) found)
+  others-step name asked key value rest found true true h g ih = let e = same-true asked key g in rw ih (rw (e, h))
+  others-step name asked key value rest found true false h g ih = ih
+  others-step name asked key value rest found false true h g ih = let e = same-true asked key g in rw (e, h, same-refl key)
+  others-step name asked key value rest found false false h g ih = rw g ih
+
+  pub lookup-others : (name asked : List ℕ) (table : List (List ℕ × X)) → lookup (same asked) (others name table) ≡ cond (same name asked) None (lookup (same asked) table)
+  lookup-others name asked [] = cond_same (same name asked) None
+  lookup-others name asked (entry ∷ table) = others-step name asked entry.0 entry.1 (others name table) (lookup (same asked) table) (same name entry.0) (same asked entry.0) refl refl (lookup-others name asked table)
+
+  pub lookup-map_values : {Y : Type 0} (f : X → Y) (p : List ℕ → Bool) (table : List (List ℕ × X)) → lookup p (map_values f table) ≡ option_map f (lookup p table)
+  lookup-map_values f p [] = refl
+  lookup-map_values f p (entry ∷ table) = elim (p entry.0) as (λ b. cond b (Some (f entry.1)) (lookup p (map_values f table)) ≡ option_map f (cond b (Some entry.1) (lookup p table))) [ true ↦ refl | false ↦ lookup-map_values f p table ]
+
+  set_value-step : (name asked : List ℕ) (key : List ℕ) (old value : X) (table rest : List (List ℕ × X)) (a b : Bool) → same name key ≡ a → same asked key ≡ b → lookup (same asked) rest ≡ cond (same name asked) (option_map (λ _. value) (lookup (same name) table)) (lookup (same asked) table) → lookup (same asked) (cond a ((key, value) ∷ table) ((key, old) ∷ rest)) ≡ cond (same name asked) (option_map (λ _. value) (cond a (Some old) (lookup (same name) table))) (cond b (Some old) (lookup (same asked) table))
+  set_value-step name asked key old value table rest true true h g ih = let e = same-true asked key g in rw (g, e, h)
+  set_value-step name asked key old value table rest true false h g ih = let e = same-true name key h in let f : same name asked ≡ false = rw (e, same-sym key asked) g in rw (g, f)
+  set_value-step name asked key old value table rest false true h g ih = let e = same-true asked key g in rw (g, e, h)
+  set_value-step name asked key old value table rest false false h g ih = rw g ih
+
+  pub lookup-set_value : (name asked : List ℕ) (table : List (List ℕ × X)) (value : X) → lookup (same asked) (set_value (same name) table value) ≡ cond (same name asked) (option_map (λ _. value) (lookup (same name) table)) (lookup (same asked) table)
+  lookup-set_value name asked [] value = cond_same (same name asked) None
+  lookup-set_value name asked (entry ∷ table) value = set_value-step name asked entry.0 entry.1 value table (set_value (same name) table value) (same name entry.0) (same asked entry.0) refl refl (lookup-set_value name asked table value)
+
+  pub keys-others : (name : List ℕ) (table : List (List ℕ × X)) → keys_of (others name table) ≡ other_names name (keys_of table)
+  keys-others name [] = refl
+  keys-others name (entry ∷ table) = elim (not (same name entry.0)) as (λ b. keys_of (cond b (entry ∷ others name table) (others name table)) ≡ cond b (entry.0 ∷ other_names name (keys_of table)) (other_names name (keys_of table))) [ true ↦ ap (λ names. entry.0 ∷ names) (keys-others name table) | false ↦ keys-others name table ]
+
+  pub keys-append : (table more : List (List ℕ × X)) → keys_of (table ++ more) ≡ keys_of table ++ keys_of more
+  keys-append [] more = refl
+  keys-append (entry ∷ table) more = ap (λ names. entry.0 ∷ names) (keys-append table more)
+
+  pub keys-map_values : {Y : Type 0} (f : X → Y) (table : List (List ℕ × X)) → keys_of (map_values f table) ≡ keys_of table
+  keys-map_values f [] = refl
+  keys-map_values f (entry ∷ table) = ap (λ names. entry.0 ∷ names) (keys-map_values f table)
+
+  pub keys-set_value : (p : List ℕ → Bool) (table : List (List ℕ × X)) (value : X) → keys_of (set_value p table value) ≡ keys_of table
+  keys-set_value p [] value = refl
+  keys-set_value p (entry ∷ table) value = elim (p entry.0) as (λ b. keys_of (cond b ((entry.0, value) ∷ table) (entry ∷ set_value p table value)) ≡ entry.0 ∷ keys_of table) [ true ↦ refl | false ↦ ap (λ names. entry.0 ∷ names) (keys-set_value p table value) ]
+
+  -- a name is among the keys where something stands under it
+  pub is_among-keys : (name : List ℕ) (table : List (List ℕ × X)) → is_among name (keys_of table) ≡ is_some (lookup (same name) table)
+  is_among-keys name [] = refl
+  is_among-keys name (entry ∷ table) = elim (same name entry.0) as (λ b. (b || is_among name (keys_of table)) ≡ is_some (cond b (Some entry.1) (lookup (same name) table))) [ true ↦ refl | false ↦ is_among-keys name table ]
