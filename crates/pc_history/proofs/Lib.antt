@@ -1,3 +1,5 @@
+pub mod Needs
+pub mod Mailboxes
 pub mod Tables
 pub mod Uids
 pub mod Changes

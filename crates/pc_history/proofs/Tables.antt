@@ -1,6 +1,7 @@
 -- Look-ups in tables that were changed.
-use Rattle.std.proofs.Common.{◌≡◌, ℕ, Bool, true, false, cond, not, ◌||◌, List, [], ◌∷◌, ◌++◌, map, Option, None, Some, is_some, unwrap_or, option_map, refl, sym, ◌∙◌, ap, true≢false}
+use Rattle.std.proofs.Common.{◌≡◌, ℕ, Bool, true, false, cond, not, ◌&&◌, ◌||◌, List, [], ◌∷◌, ◌++◌, map, Option, None, Some, is_some, unwrap_or, option_map, refl, sym, ◌∙◌, ap, true≢false}
 use Rattle.std.specs.Cmp.Lexicographic.{bytes_decides}
+use Rattle.std.specs.Option.{option_or, option_map_or}
 use Rattle.std.specs.Map.{lookup, keys_of, set_value}
 use Rattle.std.proofs.lemmas.Cmp.{nat_list_eq_equiv}
 use Rattle.pc_history.specs.Table.{same, is_among, other_names, others, map_values}
@@ -14,19 +15,26 @@ same-true name other h = (bytes_decides name other).0 h
 pub same-sym : (name other : List ℕ) → same name other ≡ same other name
 same-sym name other = nat_list_eq_equiv.symm name other
 
--- the first of two that is there
-abbrev pub or_else : {X : Type 0} → Option X → Option X → Option X
-or_else None other = other
-or_else (Some x) other = Some x
+-- the parts of tests that all pass
+pub and3 : (a b c : Bool) → (a && b && c) ≡ true → (a ≡ true) × (b ≡ true) × (c ≡ true)
+and3 true true c h = (refl, refl, h)
+and3 true false c h = absurd (true≢false (sym h))
+and3 false b c h = absurd (true≢false (sym h))
 
-cond_same : {X : Type 0} (b : Bool) (x : X) → x ≡ cond b x x
+pub and5 : (a b c d e : Bool) → (a && b && c && d && e) ≡ true → (a ≡ true) × (b ≡ true) × (c ≡ true) × (d ≡ true) × (e ≡ true)
+and5 true true true d e h = let rest = and3 true d e h in (refl, refl, refl, rest.1, rest.2)
+and5 true true false d e h = absurd (true≢false (sym h))
+and5 true false c d e h = absurd (true≢false (sym h))
+and5 false b c d e h = absurd (true≢false (sym h))
+
+pub cond_same : {X : Type 0} (b : Bool) (x : X) → x ≡ cond b x x
 cond_same true x = refl
 cond_same false x = refl
 
 module _ {X : Type 0} where
-  pub lookup-append : (p : List ℕ → Bool) (table more : List (List ℕ × X)) → lookup p (table ++ more) ≡ or_else (lookup p table) (lookup p more)
+  pub lookup-append : (p : List ℕ → Bool) (table more : List (List ℕ × X)) → lookup p (table ++ more) ≡ option_or (lookup p table) (lookup p more)
   lookup-append p [] more = refl
-  lookup-append p (entry ∷ table) more = elim (p entry.0) as (λ b. cond b (Some entry.1) (lookup p (table ++ more)) ≡ or_else (cond b (Some entry.1) (lookup p table)) (lookup p more)) [ true ↦ refl | false ↦ lookup-append p table more ]
+  lookup-append p (entry ∷ table) more = elim (p entry.0) as (λ b. cond b (Some entry.1) (lookup p (table ++ more)) ≡ option_or (cond b (Some entry.1) (lookup p table)) (lookup p more)) [ true ↦ refl | false ↦ lookup-append p table more ]
 
   others-step : (name asked : List ℕ) (key : List ℕ) (value : X) (rest : List (List ℕ × X)) (found : Option X) (a b : Bool) → same name key ≡ a → same asked key ≡ b → lookup (same asked) rest ≡ cond (same name asked) None found → lookup (same asked) (cond (not a) ((key, value) ∷ rest) rest) ≡ cond (same name asked) None (cond b (Some value) found)
   others-step name asked key value rest found true true h g ih = let e = same-true asked key g in rw ih (rw (e, h))
@@ -72,3 +80,24 @@ module _ {X : Type 0} where
   pub is_among-keys : (name : List ℕ) (table : List (List ℕ × X)) → is_among name (keys_of table) ≡ is_some (lookup (same name) table)
   is_among-keys name [] = refl
   is_among-keys name (entry ∷ table) = elim (same name entry.0) as (λ b. (b || is_among name (keys_of table)) ≡ is_some (cond b (Some entry.1) (lookup (same name) table))) [ true ↦ refl | false ↦ is_among-keys name table ]
+
+  pub map_values-append : {Y : Type 0} (f : X → Y) (table more : List (List ℕ × X)) → map_values f (table ++ more) ≡ map_values f table ++ map_values f more
+  map_values-append f [] more = refl
+  map_values-append f (entry ∷ table) more = ap (λ entries. (entry.0, f entry.1) ∷ entries) (map_values-append f table more)
+
+  pub map_values-others : {Y : Type 0} (f : X → Y) (name : List ℕ) (table : List (List ℕ × X)) → map_values f (others name table) ≡ others name (map_values f table)
+  map_values-others f name [] = refl
+  map_values-others f name (entry ∷ table) = elim (not (same name entry.0)) as (λ b. map_values f (cond b (entry ∷ others name table) (others name table)) ≡ cond b ((entry.0, f entry.1) ∷ others name (map_values f table)) (others name (map_values f table))) [ true ↦ ap (λ entries. (entry.0, f entry.1) ∷ entries) (map_values-others f name table) | false ↦ map_values-others f name table ]
+
+  -- a value that all names have is set for nothing
+  pub set_value-constant : {Y : Type 0} (p : List ℕ → Bool) (value : Y) (table : List (List ℕ × X)) → set_value p (map_values (λ _. value) table) value ≡ map_values (λ _. value) table
+  set_value-constant p value [] = refl
+  set_value-constant p value (entry ∷ table) = elim (p entry.0) as (λ b. cond b ((entry.0, value) ∷ map_values (λ _. value) table) ((entry.0, value) ∷ set_value p (map_values (λ _. value) table) value) ≡ (entry.0, value) ∷ map_values (λ _. value) table) [ true ↦ refl | false ↦ ap (λ entries. (entry.0, value) ∷ entries) (set_value-constant p value table) ]
+
+  pub unwrap_or-constant : {Y : Type 0} (value : Y) (found : Option X) → unwrap_or (option_map (λ _. value) found) value ≡ value
+  unwrap_or-constant value None = refl
+  unwrap_or-constant value (Some x) = refl
+
+  pub some-from_map_or : (test : X → Bool) (found : Option X) → option_map_or test found false ≡ true → is_some found ≡ true
+  some-from_map_or test None h = absurd (true≢false (sym h))
+  some-from_map_or test (Some x) h = refl

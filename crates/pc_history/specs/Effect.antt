@@ -11,7 +11,7 @@ use Rattle.pc_history.specs.Table.{same, other_names, others, has_number}
 
 -- the messages of the letters to a mailbox, in order
 abbrev pub letters_to : List ℕ → List (List ℕ × List (List ℕ)) → List (List (List ℕ))
-letters_to mailbox letters = map (λ letter. letter.1) (filter (λ letter. same mailbox letter.0) letters)
+letters_to mailbox letters = map (λ letter. letter.1) (filter (λ letter. same letter.0 mailbox) letters)
 
 -- a message under a new uid, without the flag that says deleted
 abbrev pub copy_as : ℕ → Kept → Kept
