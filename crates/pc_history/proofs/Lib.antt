@@ -1,3 +1,4 @@
+pub mod Boxes
 pub mod Needs
 pub mod Mailboxes
 pub mod Tables
