@@ -14,7 +14,7 @@ use Rattle.pc_history.specs.Effect.{copy_as, arrived, flagged}
 use Rattle.pc_history.specs.Step.{uids_of, stamped, without, touched, touched_for_all, with_message}
 use Rattle.pc_history.specs.Legal.{AreListsOf, AreMessages}
 use Rattle.pc_history.proofs.Tables.{lookup-map_values}
-use Rattle.pc_history.proofs.Uids.{Rising, Every-weaker, Every-append, Every-filter, Every-numbers, filter-agree, filter-true, filter-false, within-true, within-below, within-above, within-none, has_number-numbers, kept_at-none, kept_at-above, kept_at-below}
+use Rattle.pc_history.proofs.Uids.{Rising, Every-weaker, Every-append, Every-filter, Every-numbers, filter-agree, filter-true, filter-false, within-true, within-below, within-above, within-next, within-none, has_number-numbers, kept_at-none, kept_at-above, kept_at-below}
 use Rattle.pc_history.proofs.Mailboxes.{with_mails}
 
 -- ---- lists
@@ -32,7 +32,7 @@ lists-clients number highest (maker ∷ clients) (list ∷ lists) client h =
 abbrev pub reached : ℕ → Bool → List ℕ → List Listed → List Listed
 reached number client uids list = touched number (cond client uids []) list
 
-touched-none : (number : ℕ) (list : List Listed) → touched number [] list ≡ list
+pub touched-none : (number : ℕ) (list : List Listed) → touched number [] list ≡ list
 touched-none number list = append-nil (filter (λ _. true) list) ∙ filter-true list
 
 -- every client's list is reached by a touch for all
@@ -106,8 +106,7 @@ kept_at-push uid highest messages new upto e =
         let none = kept_at-above uid messages (Every-weaker (λ (kept : Kept). kept.uid ≤ highest) (λ (kept : Kept). kept.uid < uid) (λ kept h. omega arith) messages upto) in
         rw (kept_at-append uid messages (new ∷ []), none, eq-eqb new.uid uid (e ∙ here), within-true highest (suc highest) uid (omega arith) (omega arith))
     | inr other ↦
-        let miss : (nat_lt highest uid && nat_le uid (suc highest)) ≡ false = elim (cases_lt highest uid) [ inl h ↦ within-above highest (suc highest) uid (omega arith) | inr h ↦ within-below highest (suc highest) uid h ] in
-        rw (kept_at-append uid messages (new ∷ []), ne_eqb new.uid uid (λ same. other (sym e ∙ same)), miss) (option_or-none (kept_at uid messages)) ]
+        rw (kept_at-append uid messages (new ∷ []), ne_eqb new.uid uid (λ same. other (sym e ∙ same)), within-next highest uid other) (option_or-none (kept_at uid messages)) ]
 
 mails-step : (uid highest : ℕ) (message : List (List ℕ)) (messages : List (List (List ℕ))) (found : Option Kept) →
     cond (nat_lt (suc highest) uid && nat_le uid (suc highest + length messages)) (option_map (arrived uid) (slice_get messages (uid - suc highest - 1))) (cond (nat_lt highest uid && nat_le uid (suc highest)) (Some (arrived (suc highest) message)) found)

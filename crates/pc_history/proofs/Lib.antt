@@ -1,3 +1,4 @@
+pub mod Agreement
 pub mod Boxes
 pub mod Needs
 pub mod Mailboxes

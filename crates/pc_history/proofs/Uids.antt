@@ -68,6 +68,9 @@ within-above low high uid h = elim (nat_lt low uid) as (λ b. (b && nat_le uid h
 pub within-none : (low uid : ℕ) → (nat_lt low uid && nat_le uid (low + 0)) ≡ false
 within-none low uid = elim (cases_lt low uid) [ inl h ↦ within-above low (low + 0) uid (omega arith) | inr h ↦ within-below low (low + 0) uid h ]
 
+pub within-next : (low uid : ℕ) → (suc low ≡ uid → ⊥) → (nat_lt low uid && nat_le uid (suc low)) ≡ false
+within-next low uid other = elim (cases_order (suc low) uid) [ inl same ↦ absurd (other same) | inr o ↦ elim o [ inl above ↦ within-above low (suc low) uid above | inr below ↦ within-below low (suc low) uid (omega arith) ] ]
+
 one_more : (uid low count : ℕ) → ((suc low == uid) || (nat_lt (suc low) uid && nat_le uid (suc low + count))) ≡ (nat_lt low uid && nat_le uid (low + suc count))
 one_more uid low count =
     let e : suc low + count ≡ low + suc count = omega arith in

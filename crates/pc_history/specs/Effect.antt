@@ -51,7 +51,7 @@ concerns (Expunge expunged) client mailbox uid flags = same expunged mailbox && 
 concerns (DropMailbox dropped) client mailbox uid flags = same dropped mailbox
 concerns (MakeClient made) client mailbox uid flags = same made client
 concerns (ResetClient reset) client mailbox uid flags = same reset client
-concerns (ResetMailbox reset within) client mailbox uid flags = same reset client && same within mailbox
+concerns (ResetMailbox reset within) client mailbox uid flags = same within mailbox && same reset client
 concerns _ client mailbox uid flags = false
 
 -- the entry begins or ends the lists of a client
@@ -62,7 +62,7 @@ begins _ client = false
 
 -- the entry says that a client has taken the change of a uid
 abbrev pub forgets : Entry → List ℕ → List ℕ → ℕ → Bool
-forgets (Forget taker within uids) client mailbox uid = same taker client && same within mailbox && has_number uid uids
+forgets (Forget taker within uids) client mailbox uid = same within mailbox && same taker client && has_number uid uids
 forgets _ client mailbox uid = false
 
 -- the clients with their births, where the entry has this number
