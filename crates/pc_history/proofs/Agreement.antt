@@ -9,16 +9,16 @@ use Rattle.pc_history.specs.declared.entry.Entry.{Entry}
 use Rattle.pc_history.specs.declared.entry.Entry.TheVariants.{MakeMailbox, DropMailbox, Flag, Expunge, Copy, MakeClient, DropClient, ResetClient, ResetMailbox, Forget, Pull, Password, Subscribe, Unsubscribe, Mark}
 use Rattle.pc_history.specs.Flags.{flag_of}
 use Rattle.pc_history.specs.Table.{same, numbers, has_number, others}
-use Rattle.pc_history.specs.Record.{MailboxRecord, AccountRecord, mailbox_of, list_of, kept_at}
-use Rattle.pc_history.specs.Effect.{gives, concerns, letters_to, copy_as, arrived, flagged}
+use Rattle.pc_history.specs.Record.{MailboxRecord, AccountRecord, mailbox_of, list_of, kept_at, stamp_at}
+use Rattle.pc_history.specs.Effect.{gives, concerns, letters_to, copy_as, arrived, flagged, clients_after, live_after, dropped_after, subscriptions_after, pulled_after, digest_after}
 use Rattle.pc_history.specs.Known.{Known, said_by, after_entry, kept_after, changes_after, listed_after, is_client_after}
 use Rattle.pc_history.specs.Allowed.{is_allowed}
-use Rattle.pc_history.specs.Step.{uids_of, stamped, without, touched, touched_for_all, with_message, with_flag_set, expunged, emptied, with_client, without_client, reset_for, taken_by, after}
+use Rattle.pc_history.specs.Step.{uids_of, stamped, without, touched, touched_for_all, with_message, with_flag_set, expunged, emptied, with_client, without_client, reset_for, taken_by, at_mailbox, with_letter, with_letters, after}
 use Rattle.pc_history.specs.Legal.{IsMailbox, IsWellFormed, AreMessages}
 use Rattle.pc_history.proofs.Needs.{copy-parts, forget-parts}
-use Rattle.pc_history.proofs.Tables.{and3, same-true, same-sym, lookup-append, lookup-others, lookup-set_value, some-from_map_or}
+use Rattle.pc_history.proofs.Tables.{keys-others, keys-append, keys-map_values, keys-set_value, same-true, same-sym, lookup-append, lookup-others, lookup-set_value, some-from_map_or}
 use Rattle.pc_history.proofs.Uids.{Rising, Every-from, Every-weaker, filter-agree, filter-true, filter-false, within-none, within-true, within-next}
-use Rattle.pc_history.proofs.Changes.{changes_with, touched_uids, changes-step}
+use Rattle.pc_history.proofs.Changes.{changes_with, touched_uids, changes-step, listed-step}
 use Rattle.pc_history.proofs.Mailboxes.{with_mails, box_by, mailbox_of-after, IsMailbox-mailbox_of}
 use Rattle.pc_history.proofs.Boxes.{lists-clients, reached, touched-none, list_of-touched, list_of-mails, highest-mails, kept_at-push, kept_at-mails, kept_at-left, kept_at-flagged, uids_of-one, option_or-none, AreUpTo}
 
@@ -229,3 +229,85 @@ module _ (r : AccountRecord) (number : ℕ) (client mailbox : List ℕ) (good : 
   list-by (Pull upto letters) h = list_of-mails number (letters_to mailbox letters) box client ∙ (λ i. reached number (lists-clients number box.highest r.clients box.lists client good.lists i) (sym (nobody box.messages (numbers box.highest (length (letters_to mailbox letters)))) i) old_list)
   list-by (MakeMailbox made) h = idle
   list-by _ h = idle
+
+-- ---- what doesn't stand under a mailbox name
+
+letters-clients : (number : ℕ) (letters : List (List ℕ × List (List ℕ))) (r : AccountRecord) → (with_letters number letters r).clients ≡ r.clients
+letters-clients number [] r = refl
+letters-clients number (letter ∷ letters) r = letters-clients number letters (with_letter number letter r)
+
+letters-live : (number : ℕ) (letters : List (List ℕ × List (List ℕ))) (r : AccountRecord) → keys_of (with_letters number letters r).live ≡ keys_of r.live
+letters-live number [] r = refl
+letters-live number (letter ∷ letters) r = letters-live number letters (with_letter number letter r) ∙ keys-set_value (same letter.0) r.live (with_message number (arrived (suc (mailbox_of r letter.0).highest) letter.1) (mailbox_of r letter.0))
+
+letters-dropped : (number : ℕ) (letters : List (List ℕ × List (List ℕ))) (r : AccountRecord) → (with_letters number letters r).dropped ≡ r.dropped
+letters-dropped number [] r = refl
+letters-dropped number (letter ∷ letters) r = letters-dropped number letters (with_letter number letter r)
+
+letters-rest : (number : ℕ) (letters : List (List ℕ × List (List ℕ))) (r : AccountRecord) → ((with_letters number letters r).digest ≡ r.digest) × ((with_letters number letters r).subscriptions ≡ r.subscriptions)
+letters-rest number [] r = (refl, refl)
+letters-rest number (letter ∷ letters) r = letters-rest number letters (with_letter number letter r)
+
+-- the table of those that live and the other fields after an entry
+pub record Fields (r : AccountRecord) (number : ℕ) (e : Entry) (new : AccountRecord) : Type 0 where
+  pub pulled : new.pulled ≡ pulled_after e r.pulled
+  pub digest : new.digest ≡ digest_after e r.digest
+  pub clients : new.clients ≡ clients_after e number r.clients
+  pub live : keys_of new.live ≡ live_after e (keys_of r.live)
+  pub dropped : keys_of new.dropped ≡ dropped_after e (keys_of r.dropped)
+  pub subscriptions : new.subscriptions ≡ subscriptions_after e r.subscriptions
+
+Fields-after : (r : AccountRecord) (number : ℕ) (e : Entry) → Fields r number e (after r number e)
+Fields-after r number (MakeMailbox mailbox) = record { pulled = refl; digest = refl; clients = refl; live = keys-append (others mailbox r.live) ((mailbox, mailbox_of r mailbox) ∷ []) ∙ ap (λ names. names ++ mailbox ∷ []) (keys-others mailbox r.live); dropped = keys-others mailbox r.dropped; subscriptions = refl }
+Fields-after r number (DropMailbox mailbox) = record { pulled = refl; digest = refl; clients = refl; live = keys-others mailbox r.live; dropped = keys-append (others mailbox r.dropped) ((mailbox, emptied number (mailbox_of r mailbox)) ∷ []) ∙ ap (λ names. names ++ mailbox ∷ []) (keys-others mailbox r.dropped); subscriptions = refl }
+Fields-after r number (Flag mailbox uid flag on) = record { pulled = refl; digest = refl; clients = refl; live = keys-set_value (same mailbox) r.live (with_flag_set number uid flag on (mailbox_of r mailbox)); dropped = refl; subscriptions = refl }
+Fields-after r number (Expunge mailbox) = record { pulled = refl; digest = refl; clients = refl; live = keys-set_value (same mailbox) r.live (expunged number (mailbox_of r mailbox)); dropped = refl; subscriptions = refl }
+Fields-after r number (Copy mailbox uid target) = elim (kept_at uid (mailbox_of r mailbox).messages) as (λ o. Fields r number (Copy mailbox uid target) (option_map_or (λ kept. at_mailbox target (λ box. with_message number (copy_as (suc box.highest) kept) box) r) o r)) [
+    None ↦ record { pulled = refl; digest = refl; clients = refl; live = refl; dropped = refl; subscriptions = refl }
+  | Some kept ↦ record { pulled = refl; digest = refl; clients = refl; live = keys-set_value (same target) r.live (with_message number (copy_as (suc (mailbox_of r target).highest) kept) (mailbox_of r target)); dropped = refl; subscriptions = refl } ]
+Fields-after r number (MakeClient client) = record { pulled = refl; digest = refl; clients = refl; live = keys-map_values (with_client number client) r.live; dropped = keys-map_values (with_client number client) r.dropped; subscriptions = refl }
+Fields-after r number (DropClient client) = record { pulled = refl; digest = refl; clients = refl; live = keys-map_values (without_client client) r.live; dropped = keys-map_values (without_client client) r.dropped; subscriptions = refl }
+Fields-after r number (ResetClient client) = record { pulled = refl; digest = refl; clients = refl; live = keys-map_values (reset_for number client) r.live; dropped = keys-map_values (reset_for number client) r.dropped; subscriptions = refl }
+Fields-after r number (ResetMailbox client mailbox) = record { pulled = refl; digest = refl; clients = refl; live = keys-set_value (same mailbox) r.live (reset_for number client (mailbox_of r mailbox)); dropped = refl; subscriptions = refl }
+Fields-after r number (Forget client mailbox uids) = record { pulled = refl; digest = refl; clients = refl; live = keys-set_value (same mailbox) r.live (taken_by client uids (mailbox_of r mailbox)); dropped = refl; subscriptions = refl }
+Fields-after r number (Pull upto letters) = record { pulled = refl; digest = (letters-rest number letters r).0; clients = letters-clients number letters r; live = letters-live number letters r; dropped = ap keys_of (letters-dropped number letters r); subscriptions = (letters-rest number letters r).1 }
+Fields-after r number (Password digest) = record { pulled = refl; digest = refl; clients = refl; live = refl; dropped = refl; subscriptions = refl }
+Fields-after r number (Subscribe board) = record { pulled = refl; digest = refl; clients = refl; live = refl; dropped = refl; subscriptions = refl }
+Fields-after r number (Unsubscribe board) = record { pulled = refl; digest = refl; clients = refl; live = refl; dropped = refl; subscriptions = refl }
+Fields-after r number (Mark board uid) = record { pulled = refl; digest = refl; clients = refl; live = refl; dropped = refl; subscriptions = refl }
+
+-- ---- all together
+
+module _ (r : AccountRecord) (number : ℕ) (e : Entry) (formed : IsWellFormed r number) (allowed : is_allowed (said_by r number) e ≡ true) where
+  highest-after : (mailbox : List ℕ) → (mailbox_of r mailbox).highest + gives e mailbox ≡ (mailbox_of (after r number e) mailbox).highest
+  highest-after mailbox = sym (ap (λ (box : MailboxRecord). box.highest) (mailbox_of-after r number e mailbox formed allowed) ∙ highest-by r number e mailbox (mailbox_of r mailbox) allowed)
+
+  kept-after : (mailbox : List ℕ) (uid : ℕ) → kept_after (said_by r number) e mailbox uid ≡ kept_at uid (mailbox_of (after r number e) mailbox).messages
+  kept-after mailbox uid = sym (ap (λ (box : MailboxRecord). kept_at uid box.messages) (mailbox_of-after r number e mailbox formed allowed) ∙ kept-by r number e mailbox uid (IsMailbox-mailbox_of r number mailbox formed) allowed)
+
+  changes-after : (client mailbox : List ℕ) → changes_after (said_by r number) e client mailbox ≡ list_of (mailbox_of (after r number e) mailbox) client
+  changes-after client mailbox =
+      changes-step r number e client mailbox (IsMailbox-mailbox_of r number mailbox formed).messages
+      ∙ sym (list-by r number client mailbox (IsMailbox-mailbox_of r number mailbox formed) e allowed)
+      ∙ sym (ap (λ (box : MailboxRecord). list_of box client) (mailbox_of-after r number e mailbox formed allowed))
+
+  listed-after : (client mailbox : List ℕ) (uid : ℕ) → listed_after (said_by r number) e client mailbox uid ≡ stamp_at uid (list_of (mailbox_of (after r number e) mailbox) client)
+  listed-after client mailbox uid = sym (listed-step r number e client mailbox uid (IsMailbox-mailbox_of r number mailbox formed).messages) ∙ ap (stamp_at uid) (changes-after client mailbox)
+
+  -- what is known after an entry is what the record says after it
+  pub after-said_by : after_entry (said_by r number) e ≡ said_by (after r number e) (suc number)
+  after-said_by =
+      let fields = Fields-after r number e in
+      λ i. record {
+        next = suc number;
+        pulled = sym fields.pulled i;
+        digest = sym fields.digest i;
+        clients = sym fields.clients i;
+        live = sym fields.live i;
+        dropped = sym fields.dropped i;
+        subscriptions = sym fields.subscriptions i;
+        highest = λ mailbox. highest-after mailbox i;
+        kept = λ mailbox uid. kept-after mailbox uid i;
+        listed = λ client mailbox uid. listed-after client mailbox uid i;
+        changes = λ client mailbox. changes-after client mailbox i;
+      }
