@@ -240,7 +240,7 @@ letters-live : (number : ℕ) (letters : List (List ℕ × List (List ℕ))) (r 
 letters-live number [] r = refl
 letters-live number (letter ∷ letters) r = letters-live number letters (with_letter number letter r) ∙ keys-set_value (same letter.0) r.live (with_message number (arrived (suc (mailbox_of r letter.0).highest) letter.1) (mailbox_of r letter.0))
 
-letters-dropped : (number : ℕ) (letters : List (List ℕ × List (List ℕ))) (r : AccountRecord) → (with_letters number letters r).dropped ≡ r.dropped
+pub letters-dropped : (number : ℕ) (letters : List (List ℕ × List (List ℕ))) (r : AccountRecord) → (with_letters number letters r).dropped ≡ r.dropped
 letters-dropped number [] r = refl
 letters-dropped number (letter ∷ letters) r = letters-dropped number letters (with_letter number letter r)
 
@@ -257,7 +257,7 @@ pub record Fields (r : AccountRecord) (number : ℕ) (e : Entry) (new : AccountR
   pub dropped : keys_of new.dropped ≡ dropped_after e (keys_of r.dropped)
   pub subscriptions : new.subscriptions ≡ subscriptions_after e r.subscriptions
 
-Fields-after : (r : AccountRecord) (number : ℕ) (e : Entry) → Fields r number e (after r number e)
+pub Fields-after : (r : AccountRecord) (number : ℕ) (e : Entry) → Fields r number e (after r number e)
 Fields-after r number (MakeMailbox mailbox) = record { pulled = refl; digest = refl; clients = refl; live = keys-append (others mailbox r.live) ((mailbox, mailbox_of r mailbox) ∷ []) ∙ ap (λ names. names ++ mailbox ∷ []) (keys-others mailbox r.live); dropped = keys-others mailbox r.dropped; subscriptions = refl }
 Fields-after r number (DropMailbox mailbox) = record { pulled = refl; digest = refl; clients = refl; live = keys-others mailbox r.live; dropped = keys-append (others mailbox r.dropped) ((mailbox, emptied number (mailbox_of r mailbox)) ∷ []) ∙ ap (λ names. names ++ mailbox ∷ []) (keys-others mailbox r.dropped); subscriptions = refl }
 Fields-after r number (Flag mailbox uid flag on) = record { pulled = refl; digest = refl; clients = refl; live = keys-set_value (same mailbox) r.live (with_flag_set number uid flag on (mailbox_of r mailbox)); dropped = refl; subscriptions = refl }

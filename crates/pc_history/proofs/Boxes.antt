@@ -54,7 +54,7 @@ filter-both uid uids (listed ∷ list) =
       true ↦ filter-both uid uids list
     | false ↦ ap (λ rest. cond (not (has_number listed.uid uids)) (listed ∷ rest) rest) (filter-both uid uids list) ]
 
-touched-twice : (number uid : ℕ) (uids : List ℕ) (list : List Listed) → has_number uid uids ≡ false → touched number uids (touched number (uid ∷ []) list) ≡ touched number (uid ∷ uids) list
+pub touched-twice : (number uid : ℕ) (uids : List ℕ) (list : List Listed) → has_number uid uids ≡ false → touched number uids (touched number (uid ∷ []) list) ≡ touched number (uid ∷ uids) list
 touched-twice number uid uids list apart =
     let own : without uids (stamped number (uid ∷ [])) ≡ stamped number (uid ∷ []) = rw apart in
     rw (filter-append (λ (listed : Listed). not (has_number listed.uid uids)) (without (uid ∷ []) list) (stamped number (uid ∷ [])), filter-both uid uids list, own) (append_assoc (without (uid ∷ uids) list) (stamped number (uid ∷ [])) (stamped number uids))

@@ -1,3 +1,5 @@
+pub mod FormedAfter
+pub mod Formed
 pub mod Agreement
 pub mod Boxes
 pub mod Needs

@@ -1,6 +1,7 @@
 -- Canonical records, and legal histories.
 use Rattle.std.specs.Prelude.{◌≡◌, ℕ, ◌<◌, ◌≤◌, ◌==◌, ◌⊎◌, true, false, List, [], ◌∷◌, ◌++◌, None, ⊤}
 use Rattle.std.specs.List.{AllByRecursion}
+use Rattle.std.specs.Map.{keys_of}
 use Rattle.pc_base.specs.declared.refusal.LimitWord.{LimitWord}
 use Rattle.pc_base.specs.declared.refusal.LimitWord.TheVariants as limit
 use Rattle.pc_history.specs.declared.kept.Kept.{Kept}
@@ -18,9 +19,9 @@ abbrev pub Ordered : {X : Type 0} → (X → X → Type 0) → List X → Type 0
 Ordered R [] = ⊤
 Ordered R (x ∷ xs) = AllByRecursion (R x) xs × Ordered R xs
 
--- two entries of a table have different names
-abbrev pub HasOtherName : {X : Type 0} → List ℕ × X → List ℕ × X → Type 0
-HasOtherName entry later = same entry.0 later.0 ≡ false
+-- no name comes twice
+abbrev pub AreDistinct : List (List ℕ) → Type 0
+AreDistinct names = Ordered (λ name later. same name later ≡ false) names
 
 -- by stamp, and then by uid
 abbrev pub IsListedBefore : Listed → Listed → Type 0
@@ -60,13 +61,14 @@ pub record IsMailbox (number : ℕ) (clients : List (List ℕ × ℕ)) (box : Ma
 
 -- what the record of a legal history is, before the entry with this number: all but the limits
 pub record IsWellFormed (r : AccountRecord) (number : ℕ) : Type 0 where
+  pub positive : 0 < number
   pub births_rise : Ordered (λ (client later : List ℕ × ℕ). client.1 < later.1) r.clients
   pub births : AllByRecursion (λ (client : List ℕ × ℕ). (0 < client.1) × (client.1 < number)) r.clients
-  pub client_names : Ordered HasOtherName r.clients
-  pub mailbox_names : Ordered HasOtherName (r.live ++ r.dropped)
+  pub client_names : AreDistinct (keys_of r.clients)
+  pub mailbox_names : AreDistinct (keys_of r.live ++ keys_of r.dropped)
   pub live : AllByRecursion (λ (mailbox : List ℕ × MailboxRecord). IsMailbox number r.clients mailbox.1) r.live
   pub dropped : AllByRecursion (λ (mailbox : List ℕ × MailboxRecord). IsMailbox number r.clients mailbox.1 × (mailbox.1.messages ≡ [])) r.dropped
-  pub boards : Ordered HasOtherName r.subscriptions
+  pub boards : AreDistinct (keys_of r.subscriptions)
   pub pulled : r.pulled ≤ LAST_MAIL
 
 -- the limits that hold at every place of a legal history, whatever its base
@@ -80,7 +82,6 @@ IsWithin k limits = AllByRecursion (λ limit. is_passed k limit ≡ false) limit
 pub record IsCanonical (r : AccountRecord) (number : ℕ) : Type 0 where
   pub well_formed : IsWellFormed r number
   pub within : IsWithin (said_by r number) limits_of_bases
-  pub begins : 0 < number
 
 -- the base is canonical, each entry was allowed, and none passed a limit
 abbrev pub IsLegal : History → Type 0

@@ -1,0 +1,98 @@
+-- The record after an entry is well-formed again.
+use Rattle.std.proofs.Common.{◌≡◌, ℕ, zero, suc, ◌+◌, ◌<◌, ◌≤◌, ◌==◌, Bool, true, false, cond, not, ◌&&◌, List, [], ◌∷◌, ◌++◌, map, filter, Option, None, Some, is_some, unwrap_or, MatchOption, refl, sym, ◌∙◌, ap, subst, subst₂, arith, le_refl, true≢false}
+use Rattle.std.specs.Prelude.{⊤}
+use Rattle.std.specs.List.{AllByRecursion as Every}
+use Rattle.std.specs.Map.{lookup, keys_of, set_value}
+use Rattle.std.specs.Option.{option_map_or, option_or}
+use Rattle.std.proofs.lemmas.Bool.{and_parts, not-true, leb-true, not-false}
+use Rattle.std.proofs.lemmas.List.Elements.{filter-append}
+use Rattle.pc_history.specs.declared.kept.Kept.{Kept}
+use Rattle.pc_history.specs.declared.kept.Listed.{Listed}
+use Rattle.pc_history.specs.declared.entry.Entry.{Entry}
+use Rattle.pc_history.specs.declared.entry.Entry.TheVariants.{MakeMailbox, DropMailbox, Flag, Expunge, Copy, MakeClient, DropClient, ResetClient, ResetMailbox, Forget, Pull, Password, Subscribe, Unsubscribe, Mark}
+use Rattle.pc_history.specs.declared.limits.TheConstants.{LAST_MAIL}
+use Rattle.pc_history.specs.Flags.{flag_of}
+use Rattle.pc_history.specs.Table.{same, is_among, map_values, other_names, others}
+use Rattle.pc_history.specs.Record.{MailboxRecord, AccountRecord, mailbox_of, new_mailbox, kept_at}
+use Rattle.pc_history.specs.Effect.{copy_as, flagged, letters_to, clients_after, live_after, dropped_after, subscriptions_after, pulled_after}
+use Rattle.pc_history.specs.Known.{said_by}
+use Rattle.pc_history.specs.Allowed.{is_allowed}
+use Rattle.pc_history.specs.Step.{uids_of, with_message, with_flag_set, expunged, emptied, with_client, without_client, reset_for, taken_by, at_mailbox, at_all, with_letter, with_letters, after}
+use Rattle.pc_history.specs.Legal.{Ordered, AreDistinct, AreMessages, IsMailbox, IsWellFormed}
+use Rattle.pc_history.proofs.Needs.{copy-parts, pull-parts}
+use Rattle.pc_history.proofs.Tables.{same-true, same-sym, same-refl, lookup-append, keys-others, keys-append, keys-set_value, some-from_map_or}
+use Rattle.pc_history.proofs.Uids.{Every-weaker, Every-from, Every-append, Every-filter}
+use Rattle.pc_history.proofs.Mailboxes.{with_mails, box_by, mailbox_of-after, IsMailbox-mailbox_of, IsMailbox-new}
+use Rattle.pc_history.proofs.Agreement.{Fields, Fields-after, letters-dropped}
+use Rattle.pc_history.proofs.Formed.{Every-insert, Every-passes, Ordered-filter, Ordered-append, Ordered-push, Ordered-insert, AreUids-messages, AreMessages-filter, AreMessages-flagged, uid-given, AreUids-one, IsMailbox-later, IsMailbox-touched, IsMailbox-reset, IsMailbox-taken, IsMailbox-with_client, IsMailbox-without_client, IsMailbox-with_message, IsMailbox-mails}
+
+-- ---- the mailbox after each entry
+
+keeps-both : (P : MailboxRecord → Type 0) (b : Bool) (changed box : MailboxRecord) → (b ≡ true → P changed) → P box → P (cond b changed box)
+keeps-both P true changed box h g = h refl
+keeps-both P false changed box h g = g
+
+module _ (r : AccountRecord) (number : ℕ) (mailbox : List ℕ) (formed : IsWellFormed r number) where
+  abbrev box : MailboxRecord
+  box = mailbox_of r mailbox
+
+  abbrev Next : MailboxRecord → Type 0
+  Next = IsMailbox (suc number) r.clients
+
+  old : IsMailbox number r.clients box
+  old = IsMailbox-mailbox_of r number mailbox formed
+
+  later : Next box
+  later = IsMailbox-later number r.clients formed.births box old
+
+  copied : (original : Option Kept) → Next (option_map_or (λ kept. with_message number (copy_as (suc box.highest) kept) box) original box)
+  copied None = later
+  copied (Some kept) = IsMailbox-with_message number r.clients formed.births (copy_as (suc box.highest) kept) box refl old
+
+  pub IsMailbox-by : (e : Entry) → is_allowed (said_by r number) e ≡ true → IsMailbox (suc number) (clients_after e number r.clients) (box_by r number e mailbox box)
+  IsMailbox-by (DropMailbox dropped) h = keeps-both Next (same dropped mailbox) (emptied number box) box (λ e. IsMailbox-touched number r.clients formed.births box.highest [] (uids_of box.messages) box (le_refl box.highest) (record { rising = tt; given = tt }) (AreUids-messages box.highest box.messages old.messages) old) later
+  IsMailbox-by (Flag changed at flag on) h = keeps-both Next (same changed mailbox) (with_flag_set number at flag on box) box (λ e.
+      let lives : is_some (kept_at at box.messages) ≡ true = ap (λ m. is_some (kept_at at (mailbox_of r m).messages)) (sym (same-true changed mailbox e)) ∙ some-from_map_or _ _ (and_parts _ _ h).1 in
+      IsMailbox-touched number r.clients formed.births box.highest (map (λ kept. cond (kept.uid == at) (flagged flag on kept) kept) box.messages) (at ∷ []) box (le_refl box.highest) (AreMessages-flagged box.highest at flag on box.messages old.messages) (AreUids-one box.highest at (uid-given box.highest at box.messages old.messages.given lives)) old) later
+  IsMailbox-by (Expunge changed) h = keeps-both Next (same changed mailbox) (expunged number box) box (λ e.
+      IsMailbox-touched number r.clients formed.births box.highest (filter (λ kept. not (flag_of kept.flags 0)) box.messages) (uids_of (filter (λ kept. flag_of kept.flags 0) box.messages)) box (le_refl box.highest) (AreMessages-filter box.highest (λ kept. not (flag_of kept.flags 0)) box.messages old.messages) (AreUids-messages box.highest (filter (λ kept. flag_of kept.flags 0) box.messages) (AreMessages-filter box.highest (λ kept. flag_of kept.flags 0) box.messages old.messages)) old) later
+  IsMailbox-by (Copy original at target) h = keeps-both Next (same target mailbox) (option_map_or (λ kept. with_message number (copy_as (suc box.highest) kept) box) (kept_at at (mailbox_of r original).messages) box) box (λ e. copied (kept_at at (mailbox_of r original).messages)) later
+  IsMailbox-by (MakeClient name) h = IsMailbox-with_client number r.clients formed.births name box old
+  IsMailbox-by (DropClient name) h = IsMailbox-without_client number r.clients formed.births name box old
+  IsMailbox-by (ResetClient name) h = IsMailbox-reset number r.clients formed.births name box old
+  IsMailbox-by (ResetMailbox name changed) h = keeps-both Next (same changed mailbox) (reset_for number name box) box (λ e. IsMailbox-reset number r.clients formed.births name box old) later
+  IsMailbox-by (Forget name changed uids) h = keeps-both Next (same changed mailbox) (taken_by name uids box) box (λ e. IsMailbox-taken number r.clients formed.births name uids box old) later
+  IsMailbox-by (Pull upto letters) h = IsMailbox-mails number r.clients formed.births (letters_to mailbox letters) box old
+  IsMailbox-by (MakeMailbox name) h = later
+  IsMailbox-by _ h = later
+
+-- ---- the tables of mailboxes
+
+lookup-none : {X : Type 0} (asked : List ℕ) (table : List (List ℕ × X)) → Every (λ (name : List ℕ). same asked name ≡ false) (keys_of table) → lookup (same asked) table ≡ None
+lookup-none asked [] h = refl
+lookup-none asked (entry ∷ table) h = rw h.0 (lookup-none asked table h.1)
+
+-- what holds of all that is found holds of the whole table, where no name comes twice
+Every-from_lookups : {X : Type 0} (P : X → Type 0) (table : List (List ℕ × X)) → AreDistinct (keys_of table) → ((asked : List ℕ) → MatchOption (lookup (same asked) table) ⊤ P) → Every (λ (entry : List ℕ × X). P entry.1) table
+Every-from_lookups P [] distinct f = tt
+Every-from_lookups {X} P (entry ∷ table) distinct f =
+    let here : MatchOption (cond true (Some entry.1) (lookup (same entry.0) table)) ⊤ P = subst (λ b. MatchOption (cond b (Some entry.1) (lookup (same entry.0) table)) ⊤ P) (same-refl entry.0) (f entry.0) in
+    (here, Every-from_lookups P table distinct.1 (λ asked. elim (same asked entry.0) as (λ b. same asked entry.0 ≡ b → MatchOption (cond b (Some entry.1) (lookup (same asked) table)) ⊤ P → MatchOption (lookup (same asked) table) ⊤ P) [
+        true ↦ λ e g. subst (λ (o : Option X). MatchOption o ⊤ P) (sym (lookup-none asked table (Every-weaker (λ name. same entry.0 name ≡ false) (λ name. same asked name ≡ false) (λ name a. rw (same-true asked entry.0 e) a) (keys_of table) distinct.0))) tt
+      | false ↦ λ e g. g ] refl (f asked)))
+
+Every-split : {X : Type 0} (P : X → Type 0) (xs ys : List X) → Every P (xs ++ ys) → Every P xs × Every P ys
+Every-split P [] ys h = (tt, h)
+Every-split P (x ∷ xs) ys h = let rest = Every-split P xs ys h.1 in ((h.0, rest.0), rest.1)
+
+found-has : (P : MailboxRecord → Type 0) (live dropped : Option MailboxRecord) (new : MailboxRecord) → P (unwrap_or live (unwrap_or dropped new)) → MatchOption (option_or live dropped) ⊤ P
+found-has P None None new h = tt
+found-has P None (Some box) new h = h
+found-has P (Some box) dropped new h = h
+
+-- what holds of each mailbox holds of the tables
+Every-mailbox : (P : MailboxRecord → Type 0) (r : AccountRecord) → AreDistinct (keys_of r.live ++ keys_of r.dropped) → ((mailbox : List ℕ) → P (mailbox_of r mailbox)) → Every (λ (entry : List ℕ × MailboxRecord). P entry.1) r.live × Every (λ (entry : List ℕ × MailboxRecord). P entry.1) r.dropped
+Every-mailbox P r distinct f =
+    Every-split (λ (entry : List ℕ × MailboxRecord). P entry.1) r.live r.dropped
+      (Every-from_lookups P (r.live ++ r.dropped) (subst AreDistinct (sym (keys-append r.live r.dropped)) distinct)
+        (λ mailbox. subst (λ (o : Option MailboxRecord). MatchOption o ⊤ P) (sym (lookup-append (same mailbox) r.live r.dropped)) (found-has P (lookup (same mailbox) r.live) (lookup (same mailbox) r.dropped) (new_mailbox r.clients) (f mailbox))))
