@@ -46,7 +46,7 @@ highest-by r number _ mailbox box h = sym (add-zero box.highest)
 
 -- ---- the messages
 
-kept-idle : (highest uid : ℕ) (given found : Option Kept) → found ≡ cond (nat_lt highest uid && nat_le uid (highest + 0)) given (option_and_then (λ kept. Some kept) found)
+pub kept-idle : (highest uid : ℕ) (given found : Option Kept) → found ≡ cond (nat_lt highest uid && nat_le uid (highest + 0)) given (option_and_then (λ kept. Some kept) found)
 kept-idle highest uid given None = rw (within-none highest uid)
 kept-idle highest uid given (Some kept) = rw (within-none highest uid)
 

@@ -1,3 +1,5 @@
+pub mod Lists
+pub mod Histories
 pub mod FormedAfter
 pub mod Formed
 pub mod Agreement

@@ -9,4 +9,6 @@ pub mod Allowed
 pub mod Limits
 pub mod Step
 pub mod Legal
+pub mod UpdateList
+pub mod Laws
 pub mod Samples

@@ -1,0 +1,69 @@
+-- What holds of every legal history.
+use Rattle.std.specs.Prelude.{◌≡◌, ℕ, ◌<◌, ◌==◌, Bool, true, false, ◌↔◌, ◌⊎◌, List, [], MatchOption, is_some, Some, if◌then◌else◌}
+use Rattle.pc_history.specs.declared.entry.Entry.{Entry}
+use Rattle.pc_history.specs.Flags.{flag_of, flags_with}
+use Rattle.pc_history.specs.Effect.{begins}
+use Rattle.pc_history.specs.Known.{touches}
+use Rattle.pc_history.specs.History.{History, start, ◌▸◌, ◌▸▸◌, known, next, birth}
+use Rattle.pc_history.specs.Allowed.{is_allowed, is_client}
+use Rattle.pc_history.specs.Limits.{limit_passed}
+use Rattle.pc_history.specs.Step.{record_of}
+use Rattle.pc_history.specs.Legal.{IsUpdateList, IsCanonical, IsLegal}
+use Rattle.pc_history.specs.UpdateList.{IsListFor, is_taken}
+
+-- two histories answer every question alike
+pub record AnswerAlike (g h : History) : Type 0 where
+  pub number : next g ≡ next h
+  pub pulled : (known g).pulled ≡ (known h).pulled
+  pub digest : (known g).digest ≡ (known h).digest
+  pub clients : (known g).clients ≡ (known h).clients
+  pub births : (client : List ℕ) → birth g client ≡ birth h client
+  pub live : (known g).live ≡ (known h).live
+  pub dropped : (known g).dropped ≡ (known h).dropped
+  pub subscriptions : (known g).subscriptions ≡ (known h).subscriptions
+  pub highest : (mailbox : List ℕ) → (known g).highest mailbox ≡ (known h).highest mailbox
+  pub kept : (mailbox : List ℕ) (uid : ℕ) → (known g).kept mailbox uid ≡ (known h).kept mailbox uid
+  pub listed : (client mailbox : List ℕ) (uid : ℕ) → (known g).listed client mailbox uid ≡ (known h).listed client mailbox uid
+  pub changes : (client mailbox : List ℕ) → (known g).changes client mailbox ≡ (known h).changes client mailbox
+  pub allowed : (e : Entry) → is_allowed (known g) e ≡ is_allowed (known h) e
+  pub limits : (e : Entry) → limit_passed (known g) e ≡ limit_passed (known h) e
+
+-- the history with no entry whose base is the record of this one
+abbrev pub folded : History → History
+folded h = start (record_of h) (next h)
+
+abbrev pub RecordAnswersAsHistory : Type 0
+RecordAnswersAsHistory = (h : History) → IsLegal h → AnswerAlike h (folded h)
+
+-- whatever entries come behind, the record serves as well as the history whose record it is
+abbrev pub RecordInPlaceOfHistory : Type 0
+RecordInPlaceOfHistory = (h : History) → IsLegal h → (entries : List Entry) → AnswerAlike (h ▸▸ entries) (folded h ▸▸ entries) × (IsLegal (h ▸▸ entries) ↔ IsLegal (folded h ▸▸ entries)) × (record_of (h ▸▸ entries) ≡ record_of (folded h ▸▸ entries))
+
+abbrev pub RecordIsCanonical : Type 0
+RecordIsCanonical = (h : History) → IsLegal h → IsCanonical (record_of h) (next h)
+
+abbrev pub ChangesAreTheUpdateList : Type 0
+ChangesAreTheUpdateList = (h : History) → IsLegal h → (client mailbox : List ℕ) → IsListFor h client mailbox ((known h).changes client mailbox)
+
+-- a client was born by an entry of the history, and its lists have given uids with stamps of entries since then; there are no other lists
+abbrev pub StampsAreNumbersOfEntries : Type 0
+StampsAreNumbersOfEntries = (h : History) → IsLegal h → (client mailbox : List ℕ) → MatchOption (birth h client) ((known h).changes client mailbox ≡ []) (λ born. (0 < born) × (born < next h) × IsUpdateList (next h) ((known h).highest mailbox) born ((known h).changes client mailbox))
+
+-- ---- one entry more
+
+abbrev pub UntouchedStays : Type 0
+UntouchedStays = (h : History) (e : Entry) (client mailbox : List ℕ) (uid : ℕ) → touches (known h) e client mailbox uid ≡ false → (known (h ▸ e)).kept mailbox uid ≡ (known h).kept mailbox uid
+
+abbrev pub UnlistedWasTaken : Type 0
+UnlistedWasTaken = (h : History) (client mailbox : List ℕ) (uid : ℕ) → is_client (known h) client ≡ true → is_some ((known h).kept mailbox uid) ≡ true → (is_some ((known h).listed client mailbox uid) ≡ true) ⊎ (is_taken h client mailbox uid ≡ true)
+
+abbrev pub ClientStays : Type 0
+ClientStays = (h : History) (e : Entry) (client : List ℕ) → begins e client ≡ false → birth (h ▸ e) client ≡ birth h client
+
+-- where a stamp is still the one that was shown, so is the message
+abbrev pub SameStampSameMessage : Type 0
+SameStampSameMessage = (h : History) → IsLegal h → (entries : List Entry) → IsLegal (h ▸▸ entries) → (client mailbox : List ℕ) (uid stamp : ℕ) → (known h).listed client mailbox uid ≡ Some stamp → (known (h ▸▸ entries)).listed client mailbox uid ≡ Some stamp → (known (h ▸▸ entries)).kept mailbox uid ≡ (known h).kept mailbox uid
+
+-- one flag is set, and the others stay
+abbrev pub OneFlagIsSet : Type 0
+OneFlagIsSet = (flags flag other : ℕ) (on : Bool) → flags < 65536 → flag < 16 → other < 16 → flag_of (flags_with flags flag on) other ≡ (if flag == other then on else flag_of flags other)
