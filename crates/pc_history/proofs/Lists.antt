@@ -38,7 +38,7 @@ listed-last_touch (h ▸ e) client mailbox uid = listed-decided (stamps (known h
 
 -- ---- members of a list of different uids
 
-Every-on : (P : Listed → Type 0) (listed : Listed) (list : List Listed) → Every P list → IsOn listed list → P listed
+pub Every-on : (P : Listed → Type 0) (listed : Listed) (list : List Listed) → Every P list → IsOn listed list → P listed
 Every-on P listed [] h on = absurd on
 Every-on P listed (first ∷ list) h (inl e) = subst P e h.0
 Every-on P listed (first ∷ list) h (inr on) = Every-on P listed list h.1 on
@@ -48,13 +48,13 @@ IsOn-stamp_at listed [] d on = absurd on
 IsOn-stamp_at listed (first ∷ list) d (inl e) = rw (eq-eqb first.uid listed.uid (ap (λ (l : Listed). l.uid) e)) (ap (λ (l : Listed). Some l.stamp) e)
 IsOn-stamp_at listed (first ∷ list) d (inr on) = rw (Every-on (HasOtherUid first) listed list d.0 on) (IsOn-stamp_at listed list d.1 on)
 
-some-same : (a b : ℕ) → ◌≡◌ {A = Option ℕ} (Some a) (Some b) → a ≡ b
+pub some-same : (a b : ℕ) → ◌≡◌ {A = Option ℕ} (Some a) (Some b) → a ≡ b
 some-same a b e = cc
 
-none-some : {X : Type 0} (b : X) → ◌≡◌ {A = Option X} None (Some b) → ⊥
+pub none-some : {X : Type 0} (b : X) → ◌≡◌ {A = Option X} None (Some b) → ⊥
 none-some b e = cc
 
-stamp_at-IsOn : (uid stamp : ℕ) (list : List Listed) → stamp_at uid list ≡ Some stamp → IsOn (record { uid = uid; stamp = stamp }) list
+pub stamp_at-IsOn : (uid stamp : ℕ) (list : List Listed) → stamp_at uid list ≡ Some stamp → IsOn (record { uid = uid; stamp = stamp }) list
 stamp_at-IsOn uid stamp [] h = absurd (none-some stamp h)
 stamp_at-IsOn uid stamp (first ∷ list) h =
     elim (cases_eq first.uid uid) [
@@ -96,7 +96,7 @@ unfolding OrderedDistinct
 any-list number highest None list h = subst (λ l. Ordered IsListedBefore l × Ordered HasOtherUid l) (sym h) (tt, tt)
 any-list number highest (Some born) list h = (h.2.in_order, h.2.distinct)
 
-listed-stamp_at : (h : History) → IsLegal h → (client mailbox : List ℕ) (uid : ℕ) → stamp_at uid ((known h).changes client mailbox) ≡ (known h).listed client mailbox uid
+pub listed-stamp_at : (h : History) → IsLegal h → (client mailbox : List ℕ) (uid : ℕ) → stamp_at uid ((known h).changes client mailbox) ≡ (known h).listed client mailbox uid
 listed-stamp_at h legal client mailbox uid = subst (λ (k : Known). stamp_at uid (k.changes client mailbox) ≡ k.listed client mailbox uid) (sym (Stands-legal h legal).alike) refl
 
 untaken-touch : (taken : Bool) (touch : Option ℕ) (stamp : ℕ) → cond taken None touch ≡ Some stamp → (touch ≡ Some stamp) × (taken ≡ false)
