@@ -1,7 +1,7 @@
 -- One entry more: what the record says after it is what is known after it.
-use Rattle.std.proofs.Common.{◌≡◌, ℕ, zero, suc, ◌+◌, ◌-◌, ◌<◌, ◌≤◌, ◌==◌, Bool, true, false, cond, not, ◌&&◌, ◌||◌, nat_lt, nat_le, List, [], ◌∷◌, ◌++◌, length, map, filter, Option, None, Some, is_some, unwrap_or, option_map, option_and_then, refl, sym, ◌∙◌, ap, arith, inl, inr, slice_get, add-zero, add-one, append-nil, true≢false}
+use Rattle.std.proofs.Common.{◌≡◌, ℕ, suc, ◌+◌, ◌-◌, ◌<◌, ◌≤◌, ◌==◌, Bool, true, false, cond, not, ◌&&◌, ◌||◌, nat_lt, nat_le, List, [], ◌∷◌, ◌++◌, length, filter, Option, None, Some, is_some, unwrap_or, option_map, option_and_then, refl, sym, ◌∙◌, ap, arith, inl, inr, slice_get, add-zero, add-one, append-nil, true≢false}
 use Rattle.std.specs.Map.{lookup, keys_of, set_value}
-use Rattle.std.specs.Option.{option_or, option_map_or}
+use Rattle.std.specs.Option.{option_map_or}
 use Rattle.std.proofs.lemmas.Bool.{and_parts, cases_eq}
 use Rattle.pc_history.specs.declared.kept.Kept.{Kept}
 use Rattle.pc_history.specs.declared.kept.Listed.{Listed}
@@ -10,8 +10,8 @@ use Rattle.pc_history.specs.declared.entry.Entry.TheVariants.{MakeMailbox, DropM
 use Rattle.pc_history.specs.Flags.{flag_of}
 use Rattle.pc_history.specs.Table.{same, numbers, has_number, others}
 use Rattle.pc_history.specs.Record.{MailboxRecord, AccountRecord, mailbox_of, list_of, kept_at, stamp_at}
-use Rattle.pc_history.specs.Effect.{gives, concerns, letters_to, copy_as, arrived, flagged, clients_after, live_after, dropped_after, subscriptions_after, pulled_after, digest_after}
-use Rattle.pc_history.specs.Known.{Known, said_by, after_entry, kept_after, changes_after, listed_after, is_client_after}
+use Rattle.pc_history.specs.Effect.{gives, letters_to, copy_as, arrived, flagged, clients_after, live_after, dropped_after, subscriptions_after, pulled_after, digest_after}
+use Rattle.pc_history.specs.Known.{said_by, after_entry, kept_after, changes_after, listed_after, is_client_after}
 use Rattle.pc_history.specs.Allowed.{is_allowed}
 use Rattle.pc_history.specs.Step.{uids_of, stamped, without, touched, touched_for_all, with_message, with_flag_set, expunged, emptied, with_client, without_client, reset_for, taken_by, at_mailbox, with_letter, with_letters, after}
 use Rattle.pc_history.specs.Legal.{IsMailbox, IsWellFormed, AreMessages}
@@ -19,7 +19,7 @@ use Rattle.pc_history.proofs.Needs.{copy-parts, forget-parts}
 use Rattle.pc_history.proofs.Tables.{keys-others, keys-append, keys-map_values, keys-set_value, same-true, same-sym, lookup-append, lookup-others, lookup-set_value, some-from_map_or}
 use Rattle.pc_history.proofs.Uids.{Rising, Every-from, Every-weaker, filter-agree, filter-true, filter-false, within-none, within-true, within-next}
 use Rattle.pc_history.proofs.Changes.{changes_with, touched_uids, changes-step, listed-step}
-use Rattle.pc_history.proofs.Mailboxes.{with_mails, box_by, mailbox_of-after, IsMailbox-mailbox_of}
+use Rattle.pc_history.proofs.Mailboxes.{box_by, mailbox_of-after, IsMailbox-mailbox_of}
 use Rattle.pc_history.proofs.Boxes.{lists-clients, reached, touched-none, list_of-touched, list_of-mails, highest-mails, kept_at-push, kept_at-mails, kept_at-left, kept_at-flagged, uids_of-one, option_or-none, AreUpTo}
 
 -- ---- the highest uid
@@ -81,8 +81,9 @@ all-left false given (Some kept) = refl
 copied-kept : (b : Bool) (number uid : ℕ) (original : Option Kept) (box : MailboxRecord) → AreUpTo box.highest box.messages → is_some original ≡ true → kept_at uid (cond b (option_map_or (λ kept. with_message number (copy_as (suc box.highest) kept) box) original box) box).messages ≡ cond (nat_lt box.highest uid && nat_le uid (box.highest + cond b 1 0)) (option_map (copy_as uid) original) (option_and_then (λ kept. Some kept) (kept_at uid box.messages))
 copied-kept true number uid None box upto h = absurd (true≢false (sym h))
 copied-kept true number uid (Some kept) box upto h = kept_at-push uid box.highest box.messages (copy_as (suc box.highest) kept) upto refl ∙ rw (add-one box.highest) (elim (cases_eq (suc box.highest) uid) [
-      inl here ↦ rw (within-true box.highest (suc box.highest) uid (omega arith) (omega arith)) (ap (λ n. Some (copy_as n kept)) here)
-    | inr other ↦ rw (within-next box.highest uid other) (all-left false None (kept_at uid box.messages)) ])
+  | inl here ↦ rw (within-true box.highest (suc box.highest) uid (omega arith) (omega arith)) (ap (λ n. Some (copy_as n kept)) here)
+  | inr other ↦ rw (within-next box.highest uid other) (all-left false None (kept_at uid box.messages))
+])
 copied-kept false number uid original box upto h = kept-idle box.highest uid (option_map (copy_as uid) original) (kept_at uid box.messages)
 
 kept-by : (r : AccountRecord) (number : ℕ) (e : Entry) (mailbox : List ℕ) (uid : ℕ) → IsMailbox number r.clients (mailbox_of r mailbox) → is_allowed (said_by r number) e ≡ true → kept_at uid (box_by r number e mailbox (mailbox_of r mailbox)).messages ≡ kept_after (said_by r number) e mailbox uid
@@ -263,8 +264,9 @@ Fields-after r number (DropMailbox mailbox) = record { pulled = refl; digest = r
 Fields-after r number (Flag mailbox uid flag on) = record { pulled = refl; digest = refl; clients = refl; live = keys-set_value (same mailbox) r.live (with_flag_set number uid flag on (mailbox_of r mailbox)); dropped = refl; subscriptions = refl }
 Fields-after r number (Expunge mailbox) = record { pulled = refl; digest = refl; clients = refl; live = keys-set_value (same mailbox) r.live (expunged number (mailbox_of r mailbox)); dropped = refl; subscriptions = refl }
 Fields-after r number (Copy mailbox uid target) = elim (kept_at uid (mailbox_of r mailbox).messages) as (λ o. Fields r number (Copy mailbox uid target) (option_map_or (λ kept. at_mailbox target (λ box. with_message number (copy_as (suc box.highest) kept) box) r) o r)) [
-    None ↦ record { pulled = refl; digest = refl; clients = refl; live = refl; dropped = refl; subscriptions = refl }
-  | Some kept ↦ record { pulled = refl; digest = refl; clients = refl; live = keys-set_value (same target) r.live (with_message number (copy_as (suc (mailbox_of r target).highest) kept) (mailbox_of r target)); dropped = refl; subscriptions = refl } ]
+  | None ↦ record { pulled = refl; digest = refl; clients = refl; live = refl; dropped = refl; subscriptions = refl }
+  | Some kept ↦ record { pulled = refl; digest = refl; clients = refl; live = keys-set_value (same target) r.live (with_message number (copy_as (suc (mailbox_of r target).highest) kept) (mailbox_of r target)); dropped = refl; subscriptions = refl }
+]
 Fields-after r number (MakeClient client) = record { pulled = refl; digest = refl; clients = refl; live = keys-map_values (with_client number client) r.live; dropped = keys-map_values (with_client number client) r.dropped; subscriptions = refl }
 Fields-after r number (DropClient client) = record { pulled = refl; digest = refl; clients = refl; live = keys-map_values (without_client client) r.live; dropped = keys-map_values (without_client client) r.dropped; subscriptions = refl }
 Fields-after r number (ResetClient client) = record { pulled = refl; digest = refl; clients = refl; live = keys-map_values (reset_for number client) r.live; dropped = keys-map_values (reset_for number client) r.dropped; subscriptions = refl }

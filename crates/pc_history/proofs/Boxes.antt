@@ -1,20 +1,19 @@
 -- What a change makes of one mailbox: its highest uid, its messages and its lists.
-use Rattle.std.proofs.Common.{◌≡◌, ℕ, zero, suc, ◌+◌, ◌-◌, ◌<◌, ◌≤◌, ◌==◌, Bool, true, false, cond, not, ◌&&◌, ◌||◌, nat_lt, nat_le, List, [], ◌∷◌, ◌++◌, length, map, filter, slice_get, Option, None, Some, is_some, unwrap_or, option_map, option_and_then, refl, sym, ◌∙◌, ap, inl, inr, arith, add-zero, append-nil, append_assoc, eq-eqb, ne_eqb, lt-ltb, le-ltb, le-leb, true≢false}
+use Rattle.std.proofs.Common.{◌≡◌, ℕ, suc, ◌+◌, ◌-◌, ◌<◌, ◌≤◌, ◌==◌, Bool, true, false, cond, not, ◌&&◌, ◌||◌, nat_lt, nat_le, List, [], ◌∷◌, ◌++◌, length, map, filter, slice_get, Option, None, Some, is_some, unwrap_or, option_map, option_and_then, refl, sym, ◌∙◌, ap, inl, inr, arith, add-zero, append-nil, append_assoc, eq-eqb, ne_eqb, lt-ltb, true≢false}
 use Rattle.std.specs.List.{AllByRecursion as Every}
-use Rattle.std.specs.Map.{lookup, set_value}
+use Rattle.std.specs.Map.{lookup}
 use Rattle.std.specs.Option.{option_or}
-use Rattle.std.proofs.lemmas.Bool.{cases_eq, cases_order, cases_lt}
+use Rattle.std.proofs.lemmas.Bool.{cases_eq, cases_order}
 use Rattle.std.proofs.lemmas.List.Elements.{filter-append}
 use Rattle.pc_history.specs.declared.kept.Kept.{Kept}
 use Rattle.pc_history.specs.declared.kept.Listed.{Listed}
-use Rattle.pc_history.specs.Flags.{flag_of, flags_with}
-use Rattle.pc_history.specs.Table.{same, numbers, has_number, map_values, others}
+use Rattle.pc_history.specs.Table.{same, numbers, has_number}
 use Rattle.pc_history.specs.Record.{MailboxRecord, list_of, kept_at}
-use Rattle.pc_history.specs.Effect.{copy_as, arrived, flagged}
+use Rattle.pc_history.specs.Effect.{arrived, flagged}
 use Rattle.pc_history.specs.Step.{uids_of, stamped, without, touched, touched_for_all, with_message}
-use Rattle.pc_history.specs.Legal.{AreListsOf, AreMessages}
+use Rattle.pc_history.specs.Legal.{AreListsOf}
 use Rattle.pc_history.proofs.Tables.{lookup-map_values}
-use Rattle.pc_history.proofs.Uids.{Rising, Every-weaker, Every-append, Every-filter, Every-numbers, filter-agree, filter-true, filter-false, within-true, within-below, within-above, within-next, within-none, has_number-numbers, kept_at-none, kept_at-above, kept_at-below}
+use Rattle.pc_history.proofs.Uids.{Rising, Every-weaker, Every-append, Every-filter, filter-agree, filter-true, filter-false, within-true, within-below, within-above, within-next, within-none, has_number-numbers, kept_at-above, kept_at-below}
 use Rattle.pc_history.proofs.Mailboxes.{with_mails}
 
 -- ---- lists
@@ -51,8 +50,9 @@ filter-both : (uid : ℕ) (uids : List ℕ) (list : List Listed) → without uid
 filter-both uid uids [] = refl
 filter-both uid uids (listed ∷ list) =
     elim (uid == listed.uid) as (λ b. without uids (cond (not (b || false)) (listed ∷ without (uid ∷ []) list) (without (uid ∷ []) list)) ≡ cond (not (b || has_number listed.uid uids)) (listed ∷ without (uid ∷ uids) list) (without (uid ∷ uids) list)) [
-      true ↦ filter-both uid uids list
-    | false ↦ ap (λ rest. cond (not (has_number listed.uid uids)) (listed ∷ rest) rest) (filter-both uid uids list) ]
+      | true ↦ filter-both uid uids list
+      | false ↦ ap (λ rest. cond (not (has_number listed.uid uids)) (listed ∷ rest) rest) (filter-both uid uids list)
+    ]
 
 pub touched-twice : (number uid : ℕ) (uids : List ℕ) (list : List Listed) → has_number uid uids ≡ false → touched number uids (touched number (uid ∷ []) list) ≡ touched number (uid ∷ uids) list
 touched-twice number uid uids list apart =
@@ -102,11 +102,12 @@ AreUpTo highest messages = Every (λ (kept : Kept). kept.uid ≤ highest) messag
 pub kept_at-push : (uid highest : ℕ) (messages : List Kept) (new : Kept) → AreUpTo highest messages → new.uid ≡ suc highest → kept_at uid (messages ++ new ∷ []) ≡ cond (nat_lt highest uid && nat_le uid (suc highest)) (Some new) (kept_at uid messages)
 kept_at-push uid highest messages new upto e =
     elim (cases_eq (suc highest) uid) [
-      inl here ↦
-        let none = kept_at-above uid messages (Every-weaker (λ (kept : Kept). kept.uid ≤ highest) (λ (kept : Kept). kept.uid < uid) (λ kept h. omega arith) messages upto) in
-        rw (kept_at-append uid messages (new ∷ []), none, eq-eqb new.uid uid (e ∙ here), within-true highest (suc highest) uid (omega arith) (omega arith))
-    | inr other ↦
-        rw (kept_at-append uid messages (new ∷ []), ne_eqb new.uid uid (λ same. other (sym e ∙ same)), within-next highest uid other) (option_or-none (kept_at uid messages)) ]
+      | inl here ↦
+          let none = kept_at-above uid messages (Every-weaker (λ (kept : Kept). kept.uid ≤ highest) (λ (kept : Kept). kept.uid < uid) (λ kept h. omega arith) messages upto) in
+          rw (kept_at-append uid messages (new ∷ []), none, eq-eqb new.uid uid (e ∙ here), within-true highest (suc highest) uid (omega arith) (omega arith))
+      | inr other ↦
+          rw (kept_at-append uid messages (new ∷ []), ne_eqb new.uid uid (λ same. other (sym e ∙ same)), within-next highest uid other) (option_or-none (kept_at uid messages))
+    ]
 
 mails-step : (uid highest : ℕ) (message : List (List ℕ)) (messages : List (List (List ℕ))) (found : Option Kept) →
     cond (nat_lt (suc highest) uid && nat_le uid (suc highest + length messages)) (option_map (arrived uid) (slice_get messages (uid - suc highest - 1))) (cond (nat_lt highest uid && nat_le uid (suc highest)) (Some (arrived (suc highest) message)) found)
@@ -114,14 +115,16 @@ mails-step : (uid highest : ℕ) (message : List (List ℕ)) (messages : List (L
 mails-step uid highest message messages found =
     let e : suc highest + length messages ≡ highest + suc (length messages) = omega arith in
     elim (cases_order (suc highest) uid) [
-      inl here ↦
-        let place : uid - highest - 1 ≡ 0 = omega arith in
-        rw (within-below (suc highest) (suc highest + length messages) uid (omega arith), within-true highest (suc highest) uid (omega arith) (omega arith), within-true highest (highest + suc (length messages)) uid (omega arith) (omega arith), place) (ap (λ n. Some (arrived n message)) here)
-    | inr o ↦ elim o [
-        inl above ↦
-          let place : uid - highest - 1 ≡ suc (uid - suc highest - 1) = omega arith in
-          rw (within-above highest (suc highest) uid above, place, lt-ltb (suc highest) uid above, lt-ltb highest uid (omega arith), e)
-      | inr below ↦ rw (within-below (suc highest) (suc highest + length messages) uid (omega arith), within-below highest (suc highest) uid (omega arith), within-below highest (highest + suc (length messages)) uid (omega arith)) ] ]
+      | inl here ↦
+          let place : uid - highest - 1 ≡ 0 = omega arith in
+          rw (within-below (suc highest) (suc highest + length messages) uid (omega arith), within-true highest (suc highest) uid (omega arith) (omega arith), within-true highest (highest + suc (length messages)) uid (omega arith) (omega arith), place) (ap (λ n. Some (arrived n message)) here)
+      | inr o ↦ elim o [
+        | inl above ↦
+            let place : uid - highest - 1 ≡ suc (uid - suc highest - 1) = omega arith in
+            rw (within-above highest (suc highest) uid above, place, lt-ltb (suc highest) uid above, lt-ltb highest uid (omega arith), e)
+        | inr below ↦ rw (within-below (suc highest) (suc highest + length messages) uid (omega arith), within-below highest (suc highest) uid (omega arith), within-below highest (highest + suc (length messages)) uid (omega arith))
+      ]
+    ]
 
 pub kept_at-mails : (number uid : ℕ) (messages : List (List (List ℕ))) (box : MailboxRecord) → AreUpTo box.highest box.messages → kept_at uid (with_mails number messages box).messages ≡ cond (nat_lt box.highest uid && nat_le uid (box.highest + length messages)) (option_map (arrived uid) (slice_get messages (uid - box.highest - 1))) (kept_at uid box.messages)
 kept_at-mails number uid [] box upto = rw (within-none box.highest uid)
@@ -146,10 +149,11 @@ kept_at-left gone uid [] r = refl
 kept_at-left gone uid (kept ∷ messages) r =
     let rest = filter (λ k. not (gone k)) messages in
     elim (cases_eq kept.uid uid) [
-      inl here ↦
-        let none = kept_at-below uid rest (Every-filter (λ (k : Kept). uid < k.uid) (λ k. not (gone k)) messages (Every-weaker (λ (k : Kept). kept.uid < k.uid) (λ (k : Kept). uid < k.uid) (λ k h. omega arith) messages r.0)) in
-        rw (eq-eqb kept.uid uid here) (left-here kept uid rest (gone kept) (eq-eqb kept.uid uid here) none)
-    | inr other ↦ rw (ne_eqb kept.uid uid other) (left-other kept uid rest (gone kept) (ne_eqb kept.uid uid other) ∙ kept_at-left gone uid messages r.1) ]
+      | inl here ↦
+          let none = kept_at-below uid rest (Every-filter (λ (k : Kept). uid < k.uid) (λ k. not (gone k)) messages (Every-weaker (λ (k : Kept). kept.uid < k.uid) (λ (k : Kept). uid < k.uid) (λ k h. omega arith) messages r.0)) in
+          rw (eq-eqb kept.uid uid here) (left-here kept uid rest (gone kept) (eq-eqb kept.uid uid here) none)
+      | inr other ↦ rw (ne_eqb kept.uid uid other) (left-other kept uid rest (gone kept) (ne_eqb kept.uid uid other) ∙ kept_at-left gone uid messages r.1)
+    ]
 
 -- the messages where one has a flag set
 pub kept_at-flagged : (at flag : ℕ) (on : Bool) (uid : ℕ) (messages : List Kept) → kept_at uid (map (λ kept. cond (kept.uid == at) (flagged flag on kept) kept) messages) ≡ option_and_then (λ kept. cond (at == uid) (Some (flagged flag on kept)) (Some kept)) (kept_at uid messages)
@@ -157,21 +161,25 @@ kept_at-flagged at flag on uid [] = refl
 kept_at-flagged at flag on uid (kept ∷ messages) =
     let ih = kept_at-flagged at flag on uid messages in
     elim (cases_eq kept.uid uid) [
-      inl here ↦ elim (cases_eq kept.uid at) [
-          inl changed ↦ rw (eq-eqb kept.uid at changed, eq-eqb kept.uid uid here, eq-eqb at uid (sym changed ∙ here))
-        | inr not_changed ↦ rw (ne_eqb kept.uid at not_changed, eq-eqb kept.uid uid here, ne_eqb at uid (λ e. not_changed (here ∙ sym e))) ]
-    | inr other ↦ elim (kept.uid == at) as (λ b. kept_at uid (cond b (flagged flag on kept) kept ∷ map (λ k. cond (k.uid == at) (flagged flag on k) k) messages) ≡ option_and_then (λ k. cond (at == uid) (Some (flagged flag on k)) (Some k)) (kept_at uid (kept ∷ messages))) [
-          true ↦ rw (ne_eqb kept.uid uid other) ih
-        | false ↦ rw (ne_eqb kept.uid uid other) ih ] ]
+      | inl here ↦ elim (cases_eq kept.uid at) [
+        | inl changed ↦ rw (eq-eqb kept.uid at changed, eq-eqb kept.uid uid here, eq-eqb at uid (sym changed ∙ here))
+        | inr not_changed ↦ rw (ne_eqb kept.uid at not_changed, eq-eqb kept.uid uid here, ne_eqb at uid (λ e. not_changed (here ∙ sym e)))
+      ]
+      | inr other ↦ elim (kept.uid == at) as (λ b. kept_at uid (cond b (flagged flag on kept) kept ∷ map (λ k. cond (k.uid == at) (flagged flag on k) k) messages) ≡ option_and_then (λ k. cond (at == uid) (Some (flagged flag on k)) (Some k)) (kept_at uid (kept ∷ messages))) [
+        | true ↦ rw (ne_eqb kept.uid uid other) ih
+        | false ↦ rw (ne_eqb kept.uid uid other) ih
+      ]
+    ]
 
 -- a uid that lives is the one uid that equals it
 pub uids_of-one : (at : ℕ) (messages : List Kept) → Rising messages → is_some (kept_at at messages) ≡ true → uids_of (filter (λ kept. at == kept.uid) messages) ≡ at ∷ []
 uids_of-one at [] r h = absurd (true≢false (sym h))
 uids_of-one at (kept ∷ messages) r h =
     elim (cases_eq at kept.uid) [
-      inl here ↦
-        let rest = filter-agree (λ (k : Kept). at == k.uid) (λ _. false) messages (Every-weaker (λ (k : Kept). kept.uid < k.uid) (λ (k : Kept). (at == k.uid) ≡ false) (λ k g. ne_eqb at k.uid (λ e. absurd (omega arith))) messages r.0) ∙ filter-false messages in
-        rw (eq-eqb at kept.uid here, rest) (ap (λ n. n ∷ []) (sym here))
-    | inr other ↦
-        let still : is_some (kept_at at messages) ≡ true = (rw (ne_eqb kept.uid at (λ e. other (sym e))) at h) in
-        rw (ne_eqb at kept.uid other) (uids_of-one at messages r.1 still) ]
+      | inl here ↦
+          let rest = filter-agree (λ (k : Kept). at == k.uid) (λ _. false) messages (Every-weaker (λ (k : Kept). kept.uid < k.uid) (λ (k : Kept). (at == k.uid) ≡ false) (λ k g. ne_eqb at k.uid (λ e. absurd (omega arith))) messages r.0) ∙ filter-false messages in
+          rw (eq-eqb at kept.uid here, rest) (ap (λ n. n ∷ []) (sym here))
+      | inr other ↦
+          let still : is_some (kept_at at messages) ≡ true = (rw (ne_eqb kept.uid at (λ e. other (sym e))) at h) in
+          rw (ne_eqb at kept.uid other) (uids_of-one at messages r.1 still)
+    ]

@@ -1,21 +1,19 @@
 -- The update list that an entry leaves, in the words of the record.
-use Rattle.std.proofs.Common.{◌≡◌, ℕ, zero, suc, ◌+◌, ◌<◌, ◌≤◌, ◌==◌, Bool, true, false, cond, not, ◌&&◌, ◌||◌, nat_lt, nat_le, List, [], ◌∷◌, ◌++◌, map, filter, find, Option, None, Some, is_some, unwrap_or, option_map, refl, sym, ◌∙◌, ap, arith, inl, inr, eq-eqb, ne_eqb, zero-add, append-nil}
-use Rattle.std.specs.List.{AllByRecursion as Every}
+use Rattle.std.proofs.Common.{◌≡◌, ℕ, ◌+◌, ◌<◌, ◌≤◌, ◌==◌, Bool, true, false, cond, not, ◌&&◌, ◌||◌, nat_lt, nat_le, List, [], ◌∷◌, ◌++◌, filter, find, Option, None, Some, option_map, refl, sym, ◌∙◌, ap, arith, inl, inr, eq-eqb, ne_eqb, zero-add}
 use Rattle.std.specs.Option.{option_or}
-use Rattle.std.specs.Map.{lookup, set_value}
 use Rattle.std.proofs.lemmas.Bool.{cases_eq}
 use Rattle.std.proofs.lemmas.List.Elements.{filter-append}
 use Rattle.pc_history.specs.declared.kept.Kept.{Kept}
 use Rattle.pc_history.specs.declared.kept.Listed.{Listed}
 use Rattle.pc_history.specs.declared.entry.Entry.{Entry}
-use Rattle.pc_history.specs.Table.{same, numbers, has_number, map_values, others}
+use Rattle.pc_history.specs.Table.{numbers, has_number}
 use Rattle.pc_history.specs.Record.{MailboxRecord, AccountRecord, mailbox_of, list_of, stamp_at}
-use Rattle.pc_history.specs.Effect.{gives, concerns, begins, forgets, clients_after}
-use Rattle.pc_history.specs.Known.{Known, said_by, changes_after, listed_after, is_client_after, stamps}
-use Rattle.pc_history.specs.Step.{uids_of, stamped, without, touched, touched_for_all}
+use Rattle.pc_history.specs.Effect.{gives, concerns, begins, forgets}
+use Rattle.pc_history.specs.Known.{said_by, changes_after, listed_after, is_client_after, stamps}
+use Rattle.pc_history.specs.Step.{uids_of, stamped}
 use Rattle.pc_history.specs.Legal.{AreMessages}
 use Rattle.pc_history.proofs.Tables.{cond_same}
-use Rattle.pc_history.proofs.Uids.{Every-weaker, Every-numbers, filter-agree, filter-true, filter-false, numbers-append, within-true, within-below, within-none, has_number-numbers, has_number-append, hits, hits-numbers, has_number-uids}
+use Rattle.pc_history.proofs.Uids.{Every-weaker, Every-numbers, filter-agree, filter-true, filter-false, numbers-append, within-true, within-below, has_number-numbers, has_number-append, hits, hits-numbers, has_number-uids}
 
 or_comm : (a b : Bool) → (a || b) ≡ (b || a)
 or_comm true true = refl
@@ -97,10 +95,11 @@ stamp_at-filter p uid (listed ∷ list) =
     let rest = filter (λ (l : Listed). p l.uid) list in
     let ih : stamp_at uid rest ≡ cond (p uid) (stamp_at uid list) None = stamp_at-filter p uid list in
     elim (cases_eq listed.uid uid) [
-      inl here ↦
-        let e : p listed.uid ≡ p uid = ap p here in
-        rw (e, eq-eqb listed.uid uid here) (here-listed (p uid) uid listed rest (stamp_at uid list) (eq-eqb listed.uid uid here) ih)
-    | inr other ↦ rw (ne_eqb listed.uid uid other) (other-listed (p listed.uid) uid listed rest (ne_eqb listed.uid uid other) ∙ ih) ]
+      | inl here ↦
+          let e : p listed.uid ≡ p uid = ap p here in
+          rw (e, eq-eqb listed.uid uid here) (here-listed (p uid) uid listed rest (stamp_at uid list) (eq-eqb listed.uid uid here) ih)
+      | inr other ↦ rw (ne_eqb listed.uid uid other) (other-listed (p listed.uid) uid listed rest (ne_eqb listed.uid uid other) ∙ ih)
+    ]
 
 decided : (has begun : Bool) (number : ℕ) (old : Option ℕ) → option_or (cond (not begun && not has) old None) (cond has (Some number) None) ≡ cond has (Some number) (cond begun None old)
 decided true true number old = refl

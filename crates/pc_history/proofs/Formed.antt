@@ -1,28 +1,18 @@
 -- Order, update lists and mailboxes are kept by each change.
-use Rattle.std.proofs.Common.{◌≡◌, ℕ, zero, suc, ◌+◌, ◌-◌, ◌<◌, ◌≤◌, ◌==◌, Bool, true, false, cond, not, ◌&&◌, ◌||◌, nat_lt, nat_le, List, [], ◌∷◌, ◌++◌, length, map, filter, find, Option, None, Some, is_some, unwrap_or, option_map, MatchOption, refl, sym, ◌∙◌, ap, subst, subst₂, inl, inr, arith, le_refl, append-nil, append_assoc, eq-eqb, ne_eqb, eqb-true, true≢false}
-use Rattle.std.specs.Prelude.{⊤}
+use Rattle.std.proofs.Common.{◌≡◌, ℕ, zero, suc, ◌+◌, ◌<◌, ◌≤◌, ◌==◌, Bool, true, false, cond, not, List, [], ◌∷◌, ◌++◌, length, map, filter, Some, is_some, unwrap_or, refl, sym, ◌∙◌, ap, subst, subst₂, inl, inr, arith, le_refl, eq-eqb, ne_eqb, true≢false}
 use Rattle.std.specs.List.{AllByRecursion as Every}
-use Rattle.std.specs.Map.{lookup, keys_of, set_value}
-use Rattle.std.specs.Option.{option_map_or}
-use Rattle.std.proofs.lemmas.Bool.{and_parts, cases_eq, or_parts, not-true, leb-true}
-use Rattle.std.proofs.lemmas.List.Elements.{filter-append}
+use Rattle.std.specs.Map.{lookup, set_value}
+use Rattle.std.proofs.lemmas.Bool.{cases_eq, or_parts, not-true}
 use Rattle.pc_history.specs.declared.kept.Kept.{Kept}
 use Rattle.pc_history.specs.declared.kept.Listed.{Listed}
-use Rattle.pc_history.specs.declared.entry.Entry.{Entry}
-use Rattle.pc_history.specs.declared.entry.Entry.TheVariants.{MakeMailbox, DropMailbox, Flag, Expunge, Copy, MakeClient, DropClient, ResetClient, ResetMailbox, Forget, Pull, Password, Subscribe, Unsubscribe, Mark}
-use Rattle.pc_history.specs.Flags.{flag_of}
-use Rattle.pc_history.specs.Table.{same, numbers, has_number, map_values, other_names, others}
-use Rattle.pc_history.specs.Record.{MailboxRecord, AccountRecord, mailbox_of, list_of, kept_at}
-use Rattle.pc_history.specs.Effect.{copy_as, arrived, flagged, clients_after, live_after, dropped_after, subscriptions_after, pulled_after}
-use Rattle.pc_history.specs.Known.{said_by}
-use Rattle.pc_history.specs.Allowed.{is_allowed}
-use Rattle.pc_history.specs.Step.{uids_of, stamped, without, touched, touched_for_all, with_message, with_flag_set, expunged, emptied, with_client, without_client, reset_for, taken_by, at_mailbox, at_all, with_letter, with_letters, after}
-use Rattle.pc_history.specs.Legal.{Ordered, AreDistinct, IsListedBefore, HasOtherUid, IsChange, IsUpdateList, AreListsOf, AreMessages, IsMailbox, IsWellFormed}
-use Rattle.pc_history.proofs.Needs.{copy-parts, forget-parts, pull-parts}
-use Rattle.pc_history.proofs.Tables.{same-sym, same-refl, keys-others, keys-append, keys-set_value, some-from_map_or}
-use Rattle.pc_history.proofs.Uids.{within-below, has_number-numbers, Every-numbers, Every-weaker, Every-from, Every-append, Every-zip, Every-filter}
+use Rattle.pc_history.specs.Table.{same, numbers, has_number, map_values, others}
+use Rattle.pc_history.specs.Record.{MailboxRecord, list_of, kept_at}
+use Rattle.pc_history.specs.Effect.{arrived, flagged}
+use Rattle.pc_history.specs.Step.{uids_of, stamped, without, touched, touched_for_all, with_message, with_client, without_client, reset_for, taken_by}
+use Rattle.pc_history.specs.Legal.{Ordered, IsListedBefore, HasOtherUid, IsChange, IsUpdateList, AreListsOf, AreMessages, IsMailbox}
+use Rattle.pc_history.proofs.Uids.{within-below, has_number-numbers, Every-numbers, Every-weaker, Every-from, Every-append, Every-filter}
 use Rattle.pc_history.proofs.Boxes.{touched-none, touched-twice, highest-mails}
-use Rattle.pc_history.proofs.Mailboxes.{with_mails, box_by, mailbox_of-after, IsMailbox-mailbox_of, IsMailbox-new}
+use Rattle.pc_history.proofs.Mailboxes.{with_mails}
 
 -- ---- order
 
@@ -100,8 +90,9 @@ pub uid-given : (highest uid : ℕ) (messages : List Kept) → Every (λ (kept :
 uid-given highest uid [] h g = absurd (true≢false (sym g))
 uid-given highest uid (kept ∷ messages) h g =
     elim (cases_eq kept.uid uid) [
-      inl here ↦ (omega (arith, h.0.0), omega (arith, h.0.1))
-    | inr other ↦ uid-given highest uid messages h.1 (rw (ne_eqb kept.uid uid other) at g) ]
+      | inl here ↦ (omega (arith, h.0.0), omega (arith, h.0.1))
+      | inr other ↦ uid-given highest uid messages h.1 (rw (ne_eqb kept.uid uid other) at g)
+    ]
 
 pub AreUids-one : (highest uid : ℕ) → (0 < uid) × (uid ≤ highest) → AreUids highest (uid ∷ [])
 AreUids-one highest uid h = record { rising = (tt, tt); given = (h, tt) }
@@ -167,8 +158,9 @@ module _ (number highest : ℕ) where
   lists-set p change keeps (client ∷ clients) [] born h = h
   lists-set p change keeps (client ∷ clients) (list ∷ lists) born h =
       elim (p list.0) as (λ b. AreListsOf (suc number) highest (client ∷ clients) (cond b ((list.0, change (unwrap_or (cond b (Some list.1) (lookup p lists)) [])) ∷ lists) (list ∷ set_value p lists (change (unwrap_or (cond b (Some list.1) (lookup p lists)) []))))) [
-        true ↦ (h.0, keeps client.1 list.1 born.0.1 h.1, lists-later highest clients lists (le_refl highest) h.2)
-      | false ↦ (h.0, IsUpdateList-later number highest highest client.1 list.1 (le_refl highest) h.1, lists-set p change keeps clients lists born.1 h.2) ]
+        | true ↦ (h.0, keeps client.1 list.1 born.0.1 h.1, lists-later highest clients lists (le_refl highest) h.2)
+        | false ↦ (h.0, IsUpdateList-later number highest highest client.1 list.1 (le_refl highest) h.1, lists-set p change keeps clients lists born.1 h.2)
+      ]
 
   lists-others : (name : List ℕ) (clients : List (List ℕ × ℕ)) (lists : List (List ℕ × List Listed)) → AreListsOf number highest clients lists → AreListsOf number highest (others name clients) (others name lists)
   lists-others name [] [] h = tt
@@ -177,9 +169,10 @@ module _ (number highest : ℕ) where
   lists-others name (client ∷ clients) (list ∷ lists) h =
       let e : same name list.0 ≡ same name client.0 = ap (same name) h.0 in
       subst (λ b. AreListsOf number highest (others name (client ∷ clients)) (cond (not b) (list ∷ others name lists) (others name lists))) (sym e)
-        (elim (same name client.0) as (λ b. AreListsOf number highest (cond (not b) (client ∷ others name clients) (others name clients)) (cond (not b) (list ∷ others name lists) (others name lists))) [
-          true ↦ lists-others name clients lists h.2
-        | false ↦ (h.0, h.1, lists-others name clients lists h.2) ])
+      (elim (same name client.0) as (λ b. AreListsOf number highest (cond (not b) (client ∷ others name clients) (others name clients)) (cond (not b) (list ∷ others name lists) (others name lists))) [
+        | true ↦ lists-others name clients lists h.2
+        | false ↦ (h.0, h.1, lists-others name clients lists h.2)
+      ])
 
   lists-push : (name : List ℕ) (birth : ℕ) (new : List Listed) (clients : List (List ℕ × ℕ)) (lists : List (List ℕ × List Listed)) → IsUpdateList number highest birth new → AreListsOf number highest clients lists → AreListsOf number highest (clients ++ (name, birth) ∷ []) (lists ++ (name, new) ∷ [])
   lists-push name birth new [] [] good h = (refl, good, tt)

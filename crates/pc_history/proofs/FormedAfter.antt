@@ -1,30 +1,29 @@
 -- The record after an entry is well-formed again.
-use Rattle.std.proofs.Common.{◌≡◌, ℕ, zero, suc, ◌+◌, ◌<◌, ◌≤◌, ◌==◌, Bool, true, false, cond, not, ◌&&◌, List, [], ◌∷◌, ◌++◌, map, filter, Option, None, Some, is_some, unwrap_or, MatchOption, refl, sym, ◌∙◌, ap, subst, subst₂, arith, le_refl, append_assoc, true≢false}
+use Rattle.std.proofs.Common.{◌≡◌, ℕ, suc, ◌<◌, ◌≤◌, ◌==◌, Bool, true, false, cond, not, List, [], ◌∷◌, ◌++◌, map, filter, Option, None, Some, is_some, unwrap_or, MatchOption, refl, sym, ◌∙◌, ap, subst, subst₂, arith, le_refl, append_assoc}
 use Rattle.std.specs.Prelude.{⊤}
 use Rattle.std.specs.List.{AllByRecursion as Every}
-use Rattle.std.specs.Map.{lookup, keys_of, set_value}
+use Rattle.std.specs.Map.{lookup, keys_of}
 use Rattle.std.specs.Option.{option_map_or, option_or}
-use Rattle.std.proofs.lemmas.Bool.{and_parts, not-true, leb-true, not-false}
+use Rattle.std.proofs.lemmas.Bool.{and_parts, not-true, leb-true}
 use Rattle.std.proofs.lemmas.List.Elements.{filter-append}
 use Rattle.pc_history.specs.declared.kept.Kept.{Kept}
-use Rattle.pc_history.specs.declared.kept.Listed.{Listed}
 use Rattle.pc_history.specs.declared.entry.Entry.{Entry}
-use Rattle.pc_history.specs.declared.entry.Entry.TheVariants.{MakeMailbox, DropMailbox, Flag, Expunge, Copy, MakeClient, DropClient, ResetClient, ResetMailbox, Forget, Pull, Password, Subscribe, Unsubscribe, Mark}
+use Rattle.pc_history.specs.declared.entry.Entry.TheVariants.{MakeMailbox, DropMailbox, Flag, Expunge, Copy, MakeClient, DropClient, ResetClient, ResetMailbox, Forget, Pull, Subscribe, Unsubscribe, Mark}
 use Rattle.pc_history.specs.declared.limits.TheConstants.{LAST_MAIL}
 use Rattle.pc_history.specs.Flags.{flag_of}
-use Rattle.pc_history.specs.Table.{same, is_among, map_values, other_names, others}
+use Rattle.pc_history.specs.Table.{same, map_values, other_names, others}
 use Rattle.pc_history.specs.Record.{MailboxRecord, AccountRecord, mailbox_of, new_mailbox, kept_at}
 use Rattle.pc_history.specs.Effect.{copy_as, flagged, letters_to, clients_after, live_after, dropped_after, subscriptions_after, pulled_after}
 use Rattle.pc_history.specs.Known.{said_by}
 use Rattle.pc_history.specs.Allowed.{is_allowed}
-use Rattle.pc_history.specs.Step.{uids_of, with_message, with_flag_set, expunged, emptied, with_client, without_client, reset_for, taken_by, at_mailbox, at_all, with_letter, with_letters, after}
-use Rattle.pc_history.specs.Legal.{Ordered, AreDistinct, AreMessages, IsMailbox, IsWellFormed}
-use Rattle.pc_history.proofs.Needs.{copy-parts, pull-parts}
+use Rattle.pc_history.specs.Step.{uids_of, with_message, with_flag_set, expunged, emptied, with_client, without_client, reset_for, taken_by, at_mailbox, after}
+use Rattle.pc_history.specs.Legal.{Ordered, AreDistinct, IsMailbox, IsWellFormed}
+use Rattle.pc_history.proofs.Needs.{pull-parts}
 use Rattle.pc_history.proofs.Tables.{same-true, same-sym, same-refl, lookup-append, keys-others, keys-append, keys-set_value, some-from_map_or}
-use Rattle.pc_history.proofs.Uids.{Every-weaker, Every-from, Every-append, Every-filter, Every-zip}
-use Rattle.pc_history.proofs.Mailboxes.{with_mails, box_by, mailbox_of-after, IsMailbox-mailbox_of, IsMailbox-new}
-use Rattle.pc_history.proofs.Agreement.{Fields, Fields-after, letters-dropped}
-use Rattle.pc_history.proofs.Formed.{Every-insert, Every-passes, Ordered-filter, Ordered-append, Ordered-push, Ordered-insert, AreUids-messages, AreMessages-filter, AreMessages-flagged, uid-given, AreUids-one, IsMailbox-later, IsMailbox-touched, IsMailbox-reset, IsMailbox-taken, IsMailbox-with_client, IsMailbox-without_client, IsMailbox-with_message, IsMailbox-mails}
+use Rattle.pc_history.proofs.Uids.{Every-weaker, Every-append, Every-filter, Every-zip}
+use Rattle.pc_history.proofs.Mailboxes.{box_by, mailbox_of-after, IsMailbox-mailbox_of}
+use Rattle.pc_history.proofs.Agreement.{Fields-after, letters-dropped}
+use Rattle.pc_history.proofs.Formed.{Every-passes, Ordered-filter, Ordered-push, Ordered-insert, AreUids-messages, AreMessages-filter, AreMessages-flagged, uid-given, AreUids-one, IsMailbox-later, IsMailbox-touched, IsMailbox-reset, IsMailbox-taken, IsMailbox-with_client, IsMailbox-without_client, IsMailbox-with_message, IsMailbox-mails}
 
 -- ---- the mailbox after each entry
 
@@ -76,10 +75,13 @@ lookup-none asked (entry ∷ table) h = rw h.0 (lookup-none asked table h.1)
 Every-from_lookups : {X : Type 0} (P : X → Type 0) (table : List (List ℕ × X)) → AreDistinct (keys_of table) → ((asked : List ℕ) → MatchOption (lookup (same asked) table) ⊤ P) → Every (λ (entry : List ℕ × X). P entry.1) table
 Every-from_lookups P [] distinct f = tt
 Every-from_lookups {X} P (entry ∷ table) distinct f =
-    let here : MatchOption (cond true (Some entry.1) (lookup (same entry.0) table)) ⊤ P = subst (λ b. MatchOption (cond b (Some entry.1) (lookup (same entry.0) table)) ⊤ P) (same-refl entry.0) (f entry.0) in
-    (here, Every-from_lookups P table distinct.1 (λ asked. elim (same asked entry.0) as (λ b. same asked entry.0 ≡ b → MatchOption (cond b (Some entry.1) (lookup (same asked) table)) ⊤ P → MatchOption (lookup (same asked) table) ⊤ P) [
-        true ↦ λ e g. subst (λ (o : Option X). MatchOption o ⊤ P) (sym (lookup-none asked table (Every-weaker (λ name. same entry.0 name ≡ false) (λ name. same asked name ≡ false) (λ name a. rw (same-true asked entry.0 e) a) (keys_of table) distinct.0))) tt
-      | false ↦ λ e g. g ] refl (f asked)))
+    let here : MatchOption (cond true (Some entry.1) (lookup (same entry.0) table)) ⊤ P = subst (λ b. MatchOption (cond b (Some entry.1) (lookup (same entry.0) table)) ⊤ P) (same-refl entry.0) (f entry.0) in (
+      here,
+      Every-from_lookups P table distinct.1 (λ asked. elim (same asked entry.0) as (λ b. same asked entry.0 ≡ b → MatchOption (cond b (Some entry.1) (lookup (same asked) table)) ⊤ P → MatchOption (lookup (same asked) table) ⊤ P) [
+        | true ↦ λ e g. subst (λ (o : Option X). MatchOption o ⊤ P) (sym (lookup-none asked table (Every-weaker (λ name. same entry.0 name ≡ false) (λ name. same asked name ≡ false) (λ name a. rw (same-true asked entry.0 e) a) (keys_of table) distinct.0))) tt
+        | false ↦ λ e g. g
+      ] refl (f asked)),
+    )
 
 Every-split : {X : Type 0} (P : X → Type 0) (xs ys : List X) → Every P (xs ++ ys) → Every P xs × Every P ys
 Every-split P [] ys h = (tt, h)
@@ -94,8 +96,8 @@ found-has P (Some one) dropped new h = h
 Every-mailbox : (P : MailboxRecord → Type 0) (r : AccountRecord) → AreDistinct (keys_of r.live ++ keys_of r.dropped) → ((mailbox : List ℕ) → P (mailbox_of r mailbox)) → Every (λ (entry : List ℕ × MailboxRecord). P entry.1) r.live × Every (λ (entry : List ℕ × MailboxRecord). P entry.1) r.dropped
 Every-mailbox P r distinct f =
     Every-split (λ (entry : List ℕ × MailboxRecord). P entry.1) r.live r.dropped
-      (Every-from_lookups P (r.live ++ r.dropped) (subst AreDistinct (sym (keys-append r.live r.dropped)) distinct)
-        (λ mailbox. subst (λ (o : Option MailboxRecord). MatchOption o ⊤ P) (sym (lookup-append (same mailbox) r.live r.dropped)) (found-has P (lookup (same mailbox) r.live) (lookup (same mailbox) r.dropped) (new_mailbox r.clients) (f mailbox))))
+    (Every-from_lookups P (r.live ++ r.dropped) (subst AreDistinct (sym (keys-append r.live r.dropped)) distinct)
+    (λ mailbox. subst (λ (o : Option MailboxRecord). MatchOption o ⊤ P) (sym (lookup-append (same mailbox) r.live r.dropped)) (found-has P (lookup (same mailbox) r.live) (lookup (same mailbox) r.dropped) (new_mailbox r.clients) (f mailbox))))
 
 -- ---- names
 
@@ -144,6 +146,7 @@ births-after e number clients pos h = by_entry e
   where
     later-births : Every (λ (client : List ℕ × ℕ). (0 < client.1) × (client.1 < suc number)) clients
     later-births = Every-weaker (λ (client : List ℕ × ℕ). (0 < client.1) × (client.1 < number)) (λ (client : List ℕ × ℕ). (0 < client.1) × (client.1 < suc number)) (λ client g. (g.0, omega (arith, g.1))) clients h
+
     by_entry : (e' : Entry) → Every (λ (client : List ℕ × ℕ). (0 < client.1) × (client.1 < suc number)) (clients_after e' number clients)
     by_entry (MakeClient name) = Every-append (λ (client : List ℕ × ℕ). (0 < client.1) × (client.1 < suc number)) (others name clients) ((name, number) ∷ []) (Every-filter (λ (client : List ℕ × ℕ). (0 < client.1) × (client.1 < suc number)) (λ client. not (same name client.0)) clients later-births) ((pos, omega arith), tt)
     by_entry (DropClient name) = Every-filter (λ (client : List ℕ × ℕ). (0 < client.1) × (client.1 < suc number)) (λ client. not (same name client.0)) clients later-births

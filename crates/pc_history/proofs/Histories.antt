@@ -1,18 +1,14 @@
 -- The record of a legal history is canonical, and answers as the history does.
-use Rattle.std.proofs.Common.{◌≡◌, ℕ, suc, ◌+◌, ◌<◌, ◌≤◌, Bool, true, false, cond, not, ◌&&◌, nat_lt, nat_le, List, [], ◌∷◌, ◌++◌, length, filter, find, Option, None, Some, option_and_then, refl, sym, ◌∙◌, ap, subst, arith, le_refl, add-zero, true≢false, ltb-false, le-ltb}
+use Rattle.std.proofs.Common.{◌≡◌, ℕ, suc, ◌+◌, ◌≤◌, Bool, true, false, cond, not, ◌&&◌, nat_lt, nat_le, List, [], ◌∷◌, ◌++◌, length, filter, find, Option, None, Some, option_and_then, refl, sym, ◌∙◌, ap, subst, arith, le_refl, add-zero, true≢false, ltb-false, le-ltb}
 use Rattle.std.specs.List.{AllByRecursion as Every, list_all, filter_map}
-use Rattle.std.specs.Map.{set_value}
 use Rattle.std.proofs.lemmas.Map.{length-set_value}
 use Rattle.pc_base.specs.declared.refusal.LimitWord.{LimitWord}
-use Rattle.pc_base.specs.declared.refusal.LimitWord.TheVariants as limit
 use Rattle.pc_history.specs.declared.kept.Kept.{Kept}
 use Rattle.pc_history.specs.declared.entry.Entry.{Entry}
-use Rattle.pc_history.specs.declared.entry.Entry.TheVariants.{MakeMailbox, DropMailbox, Flag, Expunge, Copy, MakeClient, DropClient, ResetClient, ResetMailbox, Forget, Pull, Password, Subscribe, Unsubscribe, Mark}
+use Rattle.pc_history.specs.declared.entry.Entry.TheVariants.{MakeMailbox, DropClient, Forget, Password, Unsubscribe, Mark}
 use Rattle.pc_history.specs.declared.limits.TheConstants.{MOST_CLIENTS, MOST_MAILBOXES, MOST_SUBSCRIPTIONS, MOST_UIDS, MOST_MESSAGES, MOST_WEIGHT}
-use Rattle.pc_history.specs.Table.{same, others, numbers, total}
-use Rattle.pc_history.specs.Record.{AccountRecord}
-use Rattle.pc_history.specs.Effect.{gives, clients_after, subscriptions_after}
-use Rattle.pc_history.specs.Known.{Known, said_by, kept_after, after_entry}
+use Rattle.pc_history.specs.Table.{same, numbers, total}
+use Rattle.pc_history.specs.Known.{Known, said_by, after_entry}
 use Rattle.pc_history.specs.History.{History, start, ◌▸◌, ◌▸▸◌, known, next}
 use Rattle.pc_history.specs.Allowed.{is_allowed}
 use Rattle.pc_history.specs.Limits.{is_passed, limits_in_order, raises_nothing, limit_passed, weight_of}
@@ -59,13 +55,22 @@ length-filter-le p (x ∷ xs) = elim (p x) as (λ b. length (cond b (x ∷ filte
 
 -- where mailboxes and messages stay, and clients and subscriptions become no more, the limits hold as before
 within-same : (k k' : Known) → k'.live ≡ k.live → k'.dropped ≡ k.dropped → k'.highest ≡ k.highest → k'.kept ≡ k.kept → length k'.clients ≤ length k.clients → length k'.subscriptions ≤ length k.subscriptions → IsWithin k limits_of_bases → IsWithin k' limits_of_bases
-within-same k k' live dropped highest kept clients subscriptions h =
-    (not-more MOST_CLIENTS (length k.clients) (length k'.clients) clients h.0,
-    ((λ i. nat_lt MOST_MAILBOXES (length (live i ++ dropped i))) ∙ h.1.0,
-    ((λ i. not (list_all (λ mailbox. nat_le (highest i mailbox) MOST_UIDS) (live i ++ dropped i))) ∙ h.1.1.0,
-    ((λ i. not (list_all (λ mailbox. nat_le (length (filter_map (kept i mailbox) (numbers 0 (highest i mailbox)))) MOST_MESSAGES) (live i))) ∙ h.1.1.1.0,
-    ((λ i. nat_lt MOST_WEIGHT (total (λ mailbox. total weight_of (filter_map (kept i mailbox) (numbers 0 (highest i mailbox)))) (live i))) ∙ h.1.1.1.1.0,
-    (not-more MOST_SUBSCRIPTIONS (length k.subscriptions) (length k'.subscriptions) subscriptions h.1.1.1.1.1.0, tt))))))
+within-same k k' live dropped highest kept clients subscriptions h = (
+  not-more MOST_CLIENTS (length k.clients) (length k'.clients) clients h.0,
+  (
+    (λ i. nat_lt MOST_MAILBOXES (length (live i ++ dropped i))) ∙ h.1.0,
+    (
+      (λ i. not (list_all (λ mailbox. nat_le (highest i mailbox) MOST_UIDS) (live i ++ dropped i))) ∙ h.1.1.0,
+      (
+        (λ i. not (list_all (λ mailbox. nat_le (length (filter_map (kept i mailbox) (numbers 0 (highest i mailbox)))) MOST_MESSAGES) (live i))) ∙ h.1.1.1.0,
+        (
+          (λ i. nat_lt MOST_WEIGHT (total (λ mailbox. total weight_of (filter_map (kept i mailbox) (numbers 0 (highest i mailbox)))) (live i))) ∙ h.1.1.1.1.0,
+          (not-more MOST_SUBSCRIPTIONS (length k.subscriptions) (length k'.subscriptions) subscriptions h.1.1.1.1.1.0, tt),
+        ),
+      ),
+    ),
+  ),
+)
 
 highest-quiet : (k : Known) → ◌≡◌ {A = List ℕ → ℕ} (λ mailbox. k.highest mailbox + 0) k.highest
 highest-quiet k = λ i mailbox. add-zero (k.highest mailbox) i
@@ -85,8 +90,9 @@ within-free k _ free h = absurd (true≢false (sym free))
 
 within-after : (k : Known) (e : Entry) → limit_passed k e ≡ None → IsWithin k limits_of_bases → IsWithin (after_entry k e) limits_of_bases
 within-after k e passed h = elim (raises_nothing e) as (λ b. raises_nothing e ≡ b → ◌≡◌ {A = Option LimitWord} (cond b None (find (is_passed (after_entry k e)) limits_in_order)) None → IsWithin (after_entry k e) limits_of_bases) [
-    true ↦ λ free g. within-free k e free h
-  | false ↦ λ held g. within-all (after_entry k e) g ] refl passed
+  | true ↦ λ free g. within-free k e free h
+  | false ↦ λ held g. within-all (after_entry k e) g
+] refl passed
 
 pub IsWithin-legal : (h : History) → IsLegal h → IsWithin (known h) limits_of_bases
 IsWithin-legal (start r number) legal = legal.within

@@ -1,3 +1,4 @@
+pub mod Alike
 pub mod Steps
 pub mod Lists
 pub mod Histories

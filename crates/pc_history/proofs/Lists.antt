@@ -1,23 +1,18 @@
 -- Update lists of legal histories.
-use Rattle.std.proofs.Common.{◌≡◌, ℕ, suc, ◌+◌, ◌<◌, ◌≤◌, ◌==◌, Bool, true, false, cond, not, ◌&&◌, ◌||◌, ◌⊎◌, ◌↔◌, nat_lt, List, [], ◌∷◌, ◌++◌, filter, find, Option, None, Some, is_some, is_none, unwrap_or, option_map, option_and_then, MatchOption, refl, sym, ◌∙◌, ap, subst, inl, inr, arith, eq-eqb, ne_eqb, eqb-true, true≢false}
+use Rattle.std.proofs.Common.{◌≡◌, ℕ, ◌<◌, Bool, true, false, cond, ◌||◌, List, [], ◌∷◌, Option, None, Some, is_none, unwrap_or, MatchOption, refl, sym, ◌∙◌, ap, subst, inl, inr, eq-eqb, ne_eqb}
 use Rattle.std.specs.List.{AllByRecursion as Every}
-use Rattle.std.specs.Map.{lookup, keys_of}
-use Rattle.std.specs.Option.{option_map_or, option_or}
-use Rattle.std.proofs.lemmas.Bool.{cases_eq, or_parts, and_parts}
-use Rattle.pc_history.specs.declared.kept.Kept.{Kept}
+use Rattle.std.specs.Map.{lookup}
+use Rattle.std.proofs.lemmas.Bool.{cases_eq}
 use Rattle.pc_history.specs.declared.kept.Listed.{Listed}
-use Rattle.pc_history.specs.declared.entry.Entry.{Entry}
-use Rattle.pc_history.specs.declared.entry.Entry.TheVariants.{MakeMailbox, DropMailbox, Flag, Expunge, Copy, MakeClient, DropClient, ResetClient, ResetMailbox, Forget, Pull, Password, Subscribe, Unsubscribe, Mark}
 use Rattle.pc_history.specs.Table.{same}
-use Rattle.pc_history.specs.Record.{AccountRecord, mailbox_of, list_of, stamp_at}
-use Rattle.pc_history.specs.Effect.{begins, forgets, concerns, gives, left_by}
-use Rattle.pc_history.specs.Known.{Known, said_by, stamps, touches, kept_after, is_given, is_client_after}
+use Rattle.pc_history.specs.Record.{mailbox_of, list_of, stamp_at}
+use Rattle.pc_history.specs.Effect.{begins, forgets}
+use Rattle.pc_history.specs.Known.{Known, stamps}
 use Rattle.pc_history.specs.History.{History, start, ◌▸◌, known, next, birth}
 use Rattle.pc_history.specs.Step.{record_of}
 use Rattle.pc_history.specs.Legal.{Ordered, IsListedBefore, HasOtherUid, IsUpdateList, AreListsOf, IsLegal}
 use Rattle.pc_history.specs.UpdateList.{last_touch, is_taken, IsOn, IsListFor}
 use Rattle.pc_history.proofs.Mailboxes.{IsMailbox-mailbox_of}
-use Rattle.pc_history.proofs.Boxes.{lists-clients}
 use Rattle.pc_history.proofs.Histories.{Stands-legal}
 
 -- ---- what is listed is what was touched and not taken since
@@ -58,10 +53,11 @@ pub stamp_at-IsOn : (uid stamp : ℕ) (list : List Listed) → stamp_at uid list
 stamp_at-IsOn uid stamp [] h = absurd (none-some stamp h)
 stamp_at-IsOn uid stamp (first ∷ list) h =
     elim (cases_eq first.uid uid) [
-      inl here ↦
-        let s = some-same first.stamp stamp (rw (eq-eqb first.uid uid here) at h) in
-        inl (λ i. record { uid = here i; stamp = s i })
-    | inr other ↦ inr (stamp_at-IsOn uid stamp list (rw (ne_eqb first.uid uid other) at h)) ]
+      | inl here ↦
+          let s = some-same first.stamp stamp (rw (eq-eqb first.uid uid here) at h) in
+          inl (λ i. record { uid = here i; stamp = s i })
+      | inr other ↦ inr (stamp_at-IsOn uid stamp list (rw (ne_eqb first.uid uid other) at h))
+    ]
 
 -- ---- the lists of a well-formed record
 
@@ -72,9 +68,10 @@ AreListsOf-found number highest (one ∷ clients) [] client h born = absurd h
 AreListsOf-found number highest (one ∷ clients) (list ∷ lists) client h born =
     let e : same client list.0 ≡ same client one.0 = ap (same client) h.0 in
     subst (λ b. MatchOption (cond (same client one.0) (Some one.1) (lookup (same client) clients)) (unwrap_or (cond b (Some list.1) (lookup (same client) lists)) [] ≡ []) (λ birth. (0 < birth) × (birth < number) × IsUpdateList number highest birth (unwrap_or (cond b (Some list.1) (lookup (same client) lists)) []))) (sym e)
-      (elim (same client one.0) as (λ b. MatchOption (cond b (Some one.1) (lookup (same client) clients)) (unwrap_or (cond b (Some list.1) (lookup (same client) lists)) [] ≡ []) (λ birth. (0 < birth) × (birth < number) × IsUpdateList number highest birth (unwrap_or (cond b (Some list.1) (lookup (same client) lists)) []))) [
-        true ↦ (born.0.0, born.0.1, h.1)
-      | false ↦ AreListsOf-found number highest clients lists client h.2 born.1 ])
+    (elim (same client one.0) as (λ b. MatchOption (cond b (Some one.1) (lookup (same client) clients)) (unwrap_or (cond b (Some list.1) (lookup (same client) lists)) [] ≡ []) (λ birth. (0 < birth) × (birth < number) × IsUpdateList number highest birth (unwrap_or (cond b (Some list.1) (lookup (same client) lists)) []))) [
+      | true ↦ (born.0.0, born.0.1, h.1)
+      | false ↦ AreListsOf-found number highest clients lists client h.2 born.1
+    ])
 
 -- the list of a client, or none where it isn't one
 ListIs : Known → List ℕ → List ℕ → Type 0
@@ -113,5 +110,6 @@ list-for h legal client mailbox =
       distinct = good.1;
       members = λ listed. (
         λ on. untaken-touch (is_taken h client mailbox listed.uid) (last_touch h client mailbox listed.uid) listed.stamp (sym (listed-last_touch h client mailbox listed.uid) ∙ sym (listed-stamp_at h legal client mailbox listed.uid) ∙ IsOn-stamp_at listed list good.1 on),
-        λ fact. stamp_at-IsOn listed.uid listed.stamp list (listed-stamp_at h legal client mailbox listed.uid ∙ listed-last_touch h client mailbox listed.uid ∙ (λ i. cond (fact.1 i) None (fact.0 i))));
+        λ fact. stamp_at-IsOn listed.uid listed.stamp list (listed-stamp_at h legal client mailbox listed.uid ∙ listed-last_touch h client mailbox listed.uid ∙ (λ i. cond (fact.1 i) None (fact.0 i))),
+      );
     }

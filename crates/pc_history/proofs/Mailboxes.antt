@@ -1,9 +1,8 @@
 -- What stands under a mailbox name after an entry.
-use Rattle.std.proofs.Common.{◌≡◌, ℕ, suc, ◌+◌, ◌==◌, Bool, true, false, cond, not, ◌&&◌, List, [], ◌∷◌, ◌++◌, Option, None, Some, is_some, unwrap_or, option_map, MatchOption, refl, sym, ◌∙◌, ap, true≢false}
+use Rattle.std.proofs.Common.{◌≡◌, ℕ, suc, Bool, true, false, cond, List, [], ◌∷◌, ◌++◌, Option, None, Some, is_some, unwrap_or, option_map, MatchOption, refl, sym, ◌∙◌, ap, true≢false}
 use Rattle.std.specs.List.{list_all, AllByRecursion as Every}
-use Rattle.std.specs.Map.{lookup, keys_of, set_value}
+use Rattle.std.specs.Map.{lookup, keys_of}
 use Rattle.std.specs.Option.{option_map_or, option_or}
-use Rattle.pc_history.specs.declared.kept.Kept.{Kept}
 use Rattle.pc_history.specs.declared.kept.Listed.{Listed}
 use Rattle.pc_history.specs.declared.entry.Entry.{Entry}
 use Rattle.pc_history.specs.declared.entry.Entry.TheVariants.{MakeMailbox, DropMailbox, Flag, Expunge, Copy, MakeClient, DropClient, ResetClient, ResetMailbox, Forget, Pull, Password, Subscribe, Unsubscribe, Mark}
@@ -11,14 +10,14 @@ use Rattle.pc_history.specs.Table.{same, others, map_values, is_among}
 use Rattle.pc_history.specs.Record.{MailboxRecord, AccountRecord, mailbox_of, new_mailbox, list_of, kept_at}
 use Rattle.pc_history.specs.Effect.{letters_to, copy_as, arrived}
 use Rattle.pc_history.specs.Known.{said_by}
-use Rattle.pc_history.specs.Allowed.{is_allowed, is_mailbox}
+use Rattle.pc_history.specs.Allowed.{is_allowed}
 use Rattle.pc_history.specs.Step.{with_message, with_flag_set, expunged, emptied, with_client, without_client, reset_for, taken_by, at_mailbox, at_all, with_letter, with_letters, after}
 use Rattle.pc_history.specs.Legal.{IsMailbox, IsWellFormed, AreListsOf}
 use Rattle.std.specs.Prelude.{⊤}
 use Rattle.std.proofs.lemmas.Bool.{and_parts}
 use Rattle.pc_history.proofs.Uids.{Every-weaker}
 use Rattle.pc_history.proofs.Needs.{forget-parts, pull-parts}
-use Rattle.pc_history.proofs.Tables.{and3, same-refl, same-true, same-sym, lookup-append, cond_same, map_values-append, map_values-others, set_value-constant, unwrap_or-constant, some-from_map_or, lookup-others, lookup-map_values, lookup-set_value, is_among-keys, keys-set_value}
+use Rattle.pc_history.proofs.Tables.{and3, same-true, same-sym, lookup-append, cond_same, map_values-append, map_values-others, set_value-constant, unwrap_or-constant, some-from_map_or, lookup-others, lookup-map_values, lookup-set_value, is_among-keys, keys-set_value}
 
 -- a mailbox once these messages have come, one after the other
 abbrev pub with_mails : ℕ → List (List (List ℕ)) → MailboxRecord → MailboxRecord
@@ -48,13 +47,15 @@ option_or-none (Some x) = refl
 module _ (r : AccountRecord) (name asked : List ℕ) where
   mailbox_of-made : mailbox_of (record r { live = others name r.live ++ (name, mailbox_of r name) ∷ []; dropped = others name r.dropped }) asked ≡ mailbox_of r asked
   mailbox_of-made = elim (same name asked) as (λ b. same name asked ≡ b → mailbox_of (record r { live = others name r.live ++ (name, mailbox_of r name) ∷ []; dropped = others name r.dropped }) asked ≡ mailbox_of r asked) [
-      true ↦ λ h. rw (lookup-append (same asked) (others name r.live) ((name, mailbox_of r name) ∷ []), lookup-others name asked r.live, h, same-sym asked name, h) (ap (mailbox_of r) (same-true name asked h))
-    | false ↦ λ h. rw (lookup-append (same asked) (others name r.live) ((name, mailbox_of r name) ∷ []), lookup-others name asked r.live, lookup-others name asked r.dropped, h, same-sym asked name, h, option_or-none (lookup (same asked) r.live)) ] refl
+    | true ↦ λ h. rw (lookup-append (same asked) (others name r.live) ((name, mailbox_of r name) ∷ []), lookup-others name asked r.live, h, same-sym asked name, h) (ap (mailbox_of r) (same-true name asked h))
+    | false ↦ λ h. rw (lookup-append (same asked) (others name r.live) ((name, mailbox_of r name) ∷ []), lookup-others name asked r.live, lookup-others name asked r.dropped, h, same-sym asked name, h, option_or-none (lookup (same asked) r.live))
+  ] refl
 
   mailbox_of-dropped : (change : MailboxRecord → MailboxRecord) → mailbox_of (record r { live = others name r.live; dropped = others name r.dropped ++ (name, change (mailbox_of r name)) ∷ [] }) asked ≡ cond (same name asked) (change (mailbox_of r asked)) (mailbox_of r asked)
   mailbox_of-dropped change = elim (same name asked) as (λ b. same name asked ≡ b → mailbox_of (record r { live = others name r.live; dropped = others name r.dropped ++ (name, change (mailbox_of r name)) ∷ [] }) asked ≡ cond b (change (mailbox_of r asked)) (mailbox_of r asked)) [
-      true ↦ λ h. rw (lookup-append (same asked) (others name r.dropped) ((name, change (mailbox_of r name)) ∷ []), lookup-others name asked r.live, lookup-others name asked r.dropped, h, same-sym asked name, h) (ap (λ m. change (mailbox_of r m)) (same-true name asked h))
-    | false ↦ λ h. rw (lookup-append (same asked) (others name r.dropped) ((name, change (mailbox_of r name)) ∷ []), lookup-others name asked r.live, lookup-others name asked r.dropped, h, same-sym asked name, h, option_or-none (lookup (same asked) r.dropped)) ] refl
+    | true ↦ λ h. rw (lookup-append (same asked) (others name r.dropped) ((name, change (mailbox_of r name)) ∷ []), lookup-others name asked r.live, lookup-others name asked r.dropped, h, same-sym asked name, h) (ap (λ m. change (mailbox_of r m)) (same-true name asked h))
+    | false ↦ λ h. rw (lookup-append (same asked) (others name r.dropped) ((name, change (mailbox_of r name)) ∷ []), lookup-others name asked r.live, lookup-others name asked r.dropped, h, same-sym asked name, h, option_or-none (lookup (same asked) r.dropped))
+  ] refl
 
   found-changed : (found : Option MailboxRecord) (value rest : MailboxRecord) → is_some found ≡ true → unwrap_or (option_map (λ _. value) found) rest ≡ value
   found-changed None value rest h = absurd (true≢false (sym h))
@@ -62,8 +63,9 @@ module _ (r : AccountRecord) (name asked : List ℕ) where
 
   mailbox_of-at : (change : MailboxRecord → MailboxRecord) → is_some (lookup (same name) r.live) ≡ true → mailbox_of (at_mailbox name change r) asked ≡ cond (same name asked) (change (mailbox_of r asked)) (mailbox_of r asked)
   mailbox_of-at change lives = elim (same name asked) as (λ b. same name asked ≡ b → mailbox_of (at_mailbox name change r) asked ≡ cond b (change (mailbox_of r asked)) (mailbox_of r asked)) [
-      true ↦ λ h. rw (lookup-set_value name asked r.live (change (mailbox_of r name)), h) (found-changed (lookup (same name) r.live) (change (mailbox_of r name)) (unwrap_or (lookup (same asked) r.dropped) (new_mailbox r.clients)) lives ∙ ap (λ m. change (mailbox_of r m)) (same-true name asked h))
-    | false ↦ λ h. rw (lookup-set_value name asked r.live (change (mailbox_of r name)), h) ] refl
+    | true ↦ λ h. rw (lookup-set_value name asked r.live (change (mailbox_of r name)), h) (found-changed (lookup (same name) r.live) (change (mailbox_of r name)) (unwrap_or (lookup (same asked) r.dropped) (new_mailbox r.clients)) lives ∙ ap (λ m. change (mailbox_of r m)) (same-true name asked h))
+    | false ↦ λ h. rw (lookup-set_value name asked r.live (change (mailbox_of r name)), h)
+  ] refl
 
 unwrap_or-option_map : {X Y : Type 0} (f : X → Y) (o : Option X) (d : X) → unwrap_or (option_map f o) (f d) ≡ f (unwrap_or o d)
 unwrap_or-option_map f None d = refl
@@ -103,8 +105,9 @@ lives-from_kept r number uid mailbox formed =
     let other = unwrap_or (lookup (same mailbox) r.dropped) (new_mailbox r.clients) in
     let none : other.messages ≡ [] = unwrap_or-has (λ (box : MailboxRecord). box.messages ≡ []) (lookup (same mailbox) r.dropped) (new_mailbox r.clients) (Every-found (λ (box : MailboxRecord). box.messages ≡ []) (same mailbox) r.dropped (Every-weaker (λ (entry : List ℕ × MailboxRecord). IsMailbox number r.clients entry.1 × (entry.1.messages ≡ [])) (λ (entry : List ℕ × MailboxRecord). entry.1.messages ≡ []) (λ entry h. h.1) r.dropped formed.dropped)) refl in
     elim (lookup (same mailbox) r.live) as (λ o. is_some (kept_at uid (unwrap_or o other).messages) ≡ true → is_some o ≡ true) [
-      None ↦ λ h. absurd (true≢false (sym h ∙ ap (λ messages. is_some (kept_at uid messages)) none))
-    | Some box ↦ λ h. refl ]
+      | None ↦ λ h. absurd (true≢false (sym h ∙ ap (λ messages. is_some (kept_at uid messages)) none))
+      | Some box ↦ λ h. refl
+    ]
 
 -- ---- what an entry makes of it
 
@@ -143,8 +146,9 @@ mailbox_of-after r number (Expunge mailbox) asked formed h = mailbox_of-at r mai
 mailbox_of-after r number (Copy mailbox uid target) asked formed h =
     let target_lives = lives r target (and3 _ _ _ h).1 in
     elim (kept_at uid (mailbox_of r mailbox).messages) as (λ original. mailbox_of (option_map_or (λ kept. at_mailbox target (λ box. with_message number (copy_as (suc box.highest) kept) box) r) original r) asked ≡ cond (same target asked) (option_map_or (λ kept. with_message number (copy_as (suc (mailbox_of r asked).highest) kept) (mailbox_of r asked)) original (mailbox_of r asked)) (mailbox_of r asked)) [
-      None ↦ cond_same (same target asked) (mailbox_of r asked)
-    | Some kept ↦ mailbox_of-at r target asked (λ box. with_message number (copy_as (suc box.highest) kept) box) target_lives ]
+      | None ↦ cond_same (same target asked) (mailbox_of r asked)
+      | Some kept ↦ mailbox_of-at r target asked (λ box. with_message number (copy_as (suc box.highest) kept) box) target_lives
+    ]
 mailbox_of-after r number (MakeClient client) asked formed h = mailbox_of-all r (others client r.clients ++ (client, number) ∷ []) (with_client number client) asked (λ i. record { highest = 0; messages = []; lists = (sym (map_values-append (λ _. []) (others client r.clients) ((client, number) ∷ []) ∙ ap (λ lists. lists ++ (client, []) ∷ []) (map_values-others (λ _. []) client r.clients))) i })
 mailbox_of-after r number (DropClient client) asked formed h = mailbox_of-all r (others client r.clients) (without_client client) asked (λ i. record { highest = 0; messages = []; lists = sym (map_values-others (λ _. []) client r.clients) i })
 mailbox_of-after r number (ResetClient client) asked formed h = mailbox_of-all r r.clients (reset_for number client) asked (no_list number client r.clients)

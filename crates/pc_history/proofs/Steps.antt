@@ -1,15 +1,15 @@
 -- What one entry more can change.
-use Rattle.std.proofs.Common.{◌≡◌, ℕ, suc, ◌+◌, ◌-◌, ◌^◌, ◌<◌, ◌≤◌, ◌==◌, Bool, true, false, cond, not, ◌&&◌, ◌||◌, ◌⊎◌, min, max, List, [], ◌∷◌, Option, None, Some, is_some, unwrap_or, option_and_then, MatchOption, refl, sym, ◌∙◌, ap, subst, inl, inr, arith, eq-eqb, ne_eqb, true≢false, w16, bit_and, bit_or}
+use Rattle.std.proofs.Common.{◌≡◌, ℕ, ◌^◌, ◌<◌, ◌==◌, Bool, true, false, cond, not, ◌&&◌, ◌||◌, ◌⊎◌, min, max, List, [], ◌∷◌, Option, None, Some, is_some, option_and_then, MatchOption, refl, sym, ◌∙◌, ap, inl, inr, arith, eq-eqb, ne_eqb, true≢false, w16, bit_and, bit_or}
 use Rattle.std.specs.Map.{lookup}
 use Rattle.std.specs.Int.{bit_at, bit_not}
-use Rattle.std.specs.Option.{option_map_or, option_or}
+use Rattle.std.specs.Option.{option_map_or}
 use Rattle.std.proofs.lemmas.Bool.{cases_eq, cases_Bool, or_parts, or_right}
 use Rattle.std.proofs.lemmas.Nat.{pow_below}
 use Rattle.std.proofs.lemmas.Nat.Bits.{bit_at_and, bit_at_or, bit_at_not, bit_at-pow_same, bit_at-pow_other, bit_at-lt}
 use Rattle.pc_history.specs.declared.kept.Kept.{Kept}
 use Rattle.pc_history.specs.declared.kept.Listed.{Listed}
 use Rattle.pc_history.specs.declared.entry.Entry.{Entry}
-use Rattle.pc_history.specs.declared.entry.Entry.TheVariants.{MakeMailbox, DropMailbox, Flag, Expunge, Copy, MakeClient, DropClient, ResetClient, ResetMailbox, Forget, Pull, Password, Subscribe, Unsubscribe, Mark}
+use Rattle.pc_history.specs.declared.entry.Entry.TheVariants.{MakeMailbox, DropMailbox, Flag, Expunge, MakeClient, DropClient}
 use Rattle.pc_history.specs.Flags.{flag_of, flags_with}
 use Rattle.pc_history.specs.Table.{same, others}
 use Rattle.pc_history.specs.Record.{mailbox_of, list_of, stamp_at}
@@ -76,17 +76,19 @@ pub unlisted-taken : (h : History) (client mailbox : List ℕ) (uid : ℕ) → i
 unlisted-taken (start r number) client mailbox uid one lives = told-start (stamp_at uid (list_of (mailbox_of r mailbox) client))
 unlisted-taken (h ▸ e) client mailbox uid one lives =
     elim (cases_Bool (touches (known h) e client mailbox uid)) [
-      inl touched ↦
-        let stamped : stamps (known h) e client mailbox uid ≡ true = rw (one, touched) in
-        inl (rw stamped)
-    | inr untouched ↦
-        let unstamped : stamps (known h) e client mailbox uid ≡ false = rw (one, untouched) in
-        let lived : is_some ((known h).kept mailbox uid) ≡ true = ap is_some (sym (kept-untouched (known h) e client mailbox uid untouched)) ∙ lives in
-        elim (cases_Bool (begins e client)) [
-          inl begun ↦ absurd (true≢false (sym (begun-touches (known h) e client mailbox uid begun one lived) ∙ untouched))
-        | inr old ↦
-            let was_one : is_client (known h) client ≡ true = ap is_some (sym (client-stays e (next h) (known h).clients client old)) ∙ one in
-            rw (unstamped, old) (told-step (forgets e client mailbox uid) (is_taken h client mailbox uid) ((known h).listed client mailbox uid) (unlisted-taken h client mailbox uid was_one lived)) ] ]
+      | inl touched ↦
+          let stamped : stamps (known h) e client mailbox uid ≡ true = rw (one, touched) in
+          inl (rw stamped)
+      | inr untouched ↦
+          let unstamped : stamps (known h) e client mailbox uid ≡ false = rw (one, untouched) in
+          let lived : is_some ((known h).kept mailbox uid) ≡ true = ap is_some (sym (kept-untouched (known h) e client mailbox uid untouched)) ∙ lives in
+          elim (cases_Bool (begins e client)) [
+            | inl begun ↦ absurd (true≢false (sym (begun-touches (known h) e client mailbox uid begun one lived) ∙ untouched))
+            | inr old ↦
+                let was_one : is_client (known h) client ≡ true = ap is_some (sym (client-stays e (next h) (known h).clients client old)) ∙ one in
+                rw (unstamped, old) (told-step (forgets e client mailbox uid) (is_taken h client mailbox uid) ((known h).listed client mailbox uid) (unlisted-taken h client mailbox uid was_one lived))
+          ]
+    ]
 
 -- ---- a stamp that stays
 
@@ -132,13 +134,15 @@ bit-on bit h = eq-eqb (max bit 1) 1 (omega arith)
 
 flag-on : (flags flag other : ℕ) → (bit_at (bit_or flags (2 ^ flag)) other == 1) ≡ cond (flag == other) true (bit_at flags other == 1)
 flag-on flags flag other = rw (bit_at_or flags (2 ^ flag) other) (elim (cases_eq flag other) [
-    inl e ↦ rw (eq-eqb flag other e, ← e, bit_at-pow_same flag) (bit-on (bit_at flags flag) (bit_at-lt flags flag))
-  | inr ne ↦ let zero_bit = bit_at-pow_other flag other (λ e. ne (sym e)) in let same : max (bit_at flags other) 0 ≡ bit_at flags other = omega arith in rw (ne_eqb flag other ne, zero_bit, same) ])
+  | inl e ↦ rw (eq-eqb flag other e, ← e, bit_at-pow_same flag) (bit-on (bit_at flags flag) (bit_at-lt flags flag))
+  | inr ne ↦ let zero_bit = bit_at-pow_other flag other (λ e. ne (sym e)) in let same : max (bit_at flags other) 0 ≡ bit_at flags other = omega arith in rw (ne_eqb flag other ne, zero_bit, same)
+])
 
 flag-off : (flags flag other : ℕ) → 2 ^ flag < 2 ^ 16 → other < 16 → (bit_at (bit_and flags (bit_not w16 (2 ^ flag))) other == 1) ≡ cond (flag == other) false (bit_at flags other == 1)
 flag-off flags flag other small within = rw (bit_at_and flags (bit_not w16 (2 ^ flag)) other, bit_at_not w16 (2 ^ flag) other small within) (elim (cases_eq flag other) [
-    inl e ↦ let gone : min (bit_at flags flag) 0 ≡ 0 = omega arith in rw (eq-eqb flag other e, ← e, bit_at-pow_same flag) (ap (λ n. n == 1) gone)
-  | inr ne ↦ let zero_bit = bit_at-pow_other flag other (λ e. ne (sym e)) in let same : min (bit_at flags other) 1 ≡ bit_at flags other = omega (arith, bit_at-lt flags other) in rw (ne_eqb flag other ne, zero_bit) (ap (λ n. n == 1) same) ])
+  | inl e ↦ let gone : min (bit_at flags flag) 0 ≡ 0 = omega arith in rw (eq-eqb flag other e, ← e, bit_at-pow_same flag) (ap (λ n. n == 1) gone)
+  | inr ne ↦ let zero_bit = bit_at-pow_other flag other (λ e. ne (sym e)) in let same : min (bit_at flags other) 1 ≡ bit_at flags other = omega (arith, bit_at-lt flags other) in rw (ne_eqb flag other ne, zero_bit) (ap (λ n. n == 1) same)
+])
 
 pub one-flag : (flags flag other : ℕ) (on : Bool) → flags < 65536 → flag < 16 → other < 16 → flag_of (flags_with flags flag on) other ≡ cond (flag == other) on (flag_of flags other)
 one-flag flags flag other true small within also = flag-on flags flag other

@@ -1,7 +1,6 @@
 -- Uids that rise, what a list of messages has at a uid, and which uids pass a test.
-use Rattle.std.proofs.Common.{◌≡◌, ℕ, zero, suc, ◌+◌, ◌<◌, ◌≤◌, ◌==◌, Bool, true, false, cond, not, ◌&&◌, ◌||◌, nat_lt, nat_le, List, [], ◌∷◌, ◌++◌, map, filter, find, Option, None, Some, refl, sym, ◌∙◌, ap, arith, add-zero, zero-add, suc-add, add-suc, lt-ltb, le-ltb, le-leb, inl, inr, eq-eqb, ne_eqb, eqb-true, ltb-true, ltb-false, leb-true, leb-false}
+use Rattle.std.proofs.Common.{◌≡◌, ℕ, zero, suc, ◌+◌, ◌<◌, ◌≤◌, ◌==◌, Bool, true, false, cond, ◌&&◌, ◌||◌, nat_lt, nat_le, List, [], ◌∷◌, ◌++◌, filter, None, refl, sym, ◌∙◌, ap, arith, add-zero, zero-add, suc-add, lt-ltb, le-ltb, le-leb, inl, inr, eq-eqb, ne_eqb}
 use Rattle.std.proofs.lemmas.Bool.{cases_order, cases_eq, cases_lt, lt-leb}
-use Rattle.std.proofs.lemmas.Bool.Decides.{nat_tests}
 use Rattle.std.specs.List.{AllByRecursion as Every}
 use Rattle.std.specs.Option.{option_map_or}
 use Rattle.pc_history.specs.declared.kept.Kept.{Kept}
@@ -75,10 +74,12 @@ one_more : (uid low count : ℕ) → ((suc low == uid) || (nat_lt (suc low) uid 
 one_more uid low count =
     let e : suc low + count ≡ low + suc count = omega arith in
     elim (cases_order (suc low) uid) [
-      inl same ↦ rw (eq-eqb (suc low) uid same) (sym (within-true low (low + suc count) uid (omega arith) (omega arith)))
-    | inr other ↦ elim other [
-        inl above ↦ rw (ne_eqb (suc low) uid (λ same. absurd (omega arith)), lt-ltb (suc low) uid above, lt-ltb low uid (omega arith), e)
-      | inr below ↦ rw (ne_eqb (suc low) uid (λ same. absurd (omega arith)), le-ltb (suc low) uid (omega arith), le-ltb low uid (omega arith)) ] ]
+      | inl same ↦ rw (eq-eqb (suc low) uid same) (sym (within-true low (low + suc count) uid (omega arith) (omega arith)))
+      | inr other ↦ elim other [
+        | inl above ↦ rw (ne_eqb (suc low) uid (λ same. absurd (omega arith)), lt-ltb (suc low) uid above, lt-ltb low uid (omega arith), e)
+        | inr below ↦ rw (ne_eqb (suc low) uid (λ same. absurd (omega arith)), le-ltb (suc low) uid (omega arith), le-ltb low uid (omega arith))
+      ]
+    ]
 
 pub has_number-numbers : (uid low count : ℕ) → has_number uid (numbers low count) ≡ (nat_lt low uid && nat_le uid (low + count))
 has_number-numbers uid low zero = sym (within-none low uid)
@@ -136,17 +137,18 @@ hits-numbers test low zero (kept ∷ messages) r h = absurd (omega (arith, h.0.0
 hits-numbers test low (suc count) [] r h = filter-false (numbers (suc low) count)
 hits-numbers test low (suc count) (kept ∷ messages) r h =
     elim (cases_eq (suc low) kept.uid) [
-      inl e ↦
-        let later : Every (λ (k : Kept). (suc low < k.uid) × (k.uid ≤ suc low + count)) messages = Every-zip (λ (k : Kept). kept.uid < k.uid) (λ (k : Kept). (low < k.uid) × (k.uid ≤ low + suc count)) (λ (k : Kept). (suc low < k.uid) × (k.uid ≤ suc low + count)) (λ k a b. (omega arith, omega (arith, b.1))) messages r.0 h.1 in
-        let rest = filter-agree (hits test (kept ∷ messages)) (hits test messages) (numbers (suc low) count) (Every-numbers (λ uid. hits test (kept ∷ messages) uid ≡ hits test messages uid) (suc low) count (λ uid a b. hits-other test kept messages uid (λ same. absurd (omega arith)))) in
-        let passed : filter (hits test (kept ∷ messages)) (numbers (suc low) count) ≡ uids_of (filter (λ k. test k.uid k.flags) messages) = rest ∙ hits-numbers test (suc low) count messages r.1 later in
-        let here = hits-here test kept messages (suc low) (sym e) in
-        (λ i. cond (here i) (suc low ∷ passed i) (passed i)) ∙ (λ i. cond (test kept.uid kept.flags) (e i ∷ uids_of (filter (λ k. test k.uid k.flags) messages)) (uids_of (filter (λ k. test k.uid k.flags) messages))) ∙ sym (uids_of-cond (test kept.uid kept.flags) kept (filter (λ k. test k.uid k.flags) messages))
-    | inr ne ↦
-        let above : suc low < kept.uid = omega (arith, h.0.0) in
-        let later : Every (λ (k : Kept). (suc low < k.uid) × (k.uid ≤ suc low + count)) messages = Every-zip (λ (k : Kept). kept.uid < k.uid) (λ (k : Kept). (low < k.uid) × (k.uid ≤ low + suc count)) (λ (k : Kept). (suc low < k.uid) × (k.uid ≤ suc low + count)) (λ k a b. (omega arith, omega (arith, b.1))) messages r.0 h.1 in
-        let none = hits-none test (kept ∷ messages) (suc low) (kept_at-below (suc low) (kept ∷ messages) (above, Every-weaker (λ (k : Kept). (suc low < k.uid) × (k.uid ≤ suc low + count)) (λ (k : Kept). suc low < k.uid) (λ k a. a.0) messages later)) in
-        (λ i. cond (none i) (suc low ∷ filter (hits test (kept ∷ messages)) (numbers (suc low) count)) (filter (hits test (kept ∷ messages)) (numbers (suc low) count))) ∙ hits-numbers test (suc low) count (kept ∷ messages) r ((above, omega (arith, h.0.1)), later) ]
+      | inl e ↦
+          let later : Every (λ (k : Kept). (suc low < k.uid) × (k.uid ≤ suc low + count)) messages = Every-zip (λ (k : Kept). kept.uid < k.uid) (λ (k : Kept). (low < k.uid) × (k.uid ≤ low + suc count)) (λ (k : Kept). (suc low < k.uid) × (k.uid ≤ suc low + count)) (λ k a b. (omega arith, omega (arith, b.1))) messages r.0 h.1 in
+          let rest = filter-agree (hits test (kept ∷ messages)) (hits test messages) (numbers (suc low) count) (Every-numbers (λ uid. hits test (kept ∷ messages) uid ≡ hits test messages uid) (suc low) count (λ uid a b. hits-other test kept messages uid (λ same. absurd (omega arith)))) in
+          let passed : filter (hits test (kept ∷ messages)) (numbers (suc low) count) ≡ uids_of (filter (λ k. test k.uid k.flags) messages) = rest ∙ hits-numbers test (suc low) count messages r.1 later in
+          let here = hits-here test kept messages (suc low) (sym e) in
+          (λ i. cond (here i) (suc low ∷ passed i) (passed i)) ∙ (λ i. cond (test kept.uid kept.flags) (e i ∷ uids_of (filter (λ k. test k.uid k.flags) messages)) (uids_of (filter (λ k. test k.uid k.flags) messages))) ∙ sym (uids_of-cond (test kept.uid kept.flags) kept (filter (λ k. test k.uid k.flags) messages))
+      | inr ne ↦
+          let above : suc low < kept.uid = omega (arith, h.0.0) in
+          let later : Every (λ (k : Kept). (suc low < k.uid) × (k.uid ≤ suc low + count)) messages = Every-zip (λ (k : Kept). kept.uid < k.uid) (λ (k : Kept). (low < k.uid) × (k.uid ≤ low + suc count)) (λ (k : Kept). (suc low < k.uid) × (k.uid ≤ suc low + count)) (λ k a b. (omega arith, omega (arith, b.1))) messages r.0 h.1 in
+          let none = hits-none test (kept ∷ messages) (suc low) (kept_at-below (suc low) (kept ∷ messages) (above, Every-weaker (λ (k : Kept). (suc low < k.uid) × (k.uid ≤ suc low + count)) (λ (k : Kept). suc low < k.uid) (λ k a. a.0) messages later)) in
+          (λ i. cond (none i) (suc low ∷ filter (hits test (kept ∷ messages)) (numbers (suc low) count)) (filter (hits test (kept ∷ messages)) (numbers (suc low) count))) ∙ hits-numbers test (suc low) count (kept ∷ messages) r ((above, omega (arith, h.0.1)), later)
+    ]
 
 -- a uid is among those of the messages that pass where its message passes
 pub has_number-uids : (test : ℕ → ℕ → Bool) (uid : ℕ) (messages : List Kept) → Rising messages → has_number uid (uids_of (filter (λ kept. test kept.uid kept.flags) messages)) ≡ hits test messages uid
@@ -155,7 +157,8 @@ has_number-uids test uid (kept ∷ messages) r =
     let split = ap (has_number uid) (uids_of-cond (test kept.uid kept.flags) kept (filter (λ k. test k.uid k.flags) messages)) in
     let ih = has_number-uids test uid messages r.1 in
     elim (cases_eq kept.uid uid) [
-      inl e ↦
-        let none = hits-none test messages uid (kept_at-below uid messages (Every-weaker (λ (k : Kept). kept.uid < k.uid) (λ (k : Kept). uid < k.uid) (λ k a. omega arith) messages r.0)) in
-        split ∙ here_step (test kept.uid kept.flags) kept.uid uid (uids_of (filter (λ k. test k.uid k.flags) messages)) (eq-eqb kept.uid uid e) (ih ∙ none) ∙ sym (hits-here test kept messages uid e)
-    | inr ne ↦ split ∙ other_step (test kept.uid kept.flags) kept.uid uid (uids_of (filter (λ k. test k.uid k.flags) messages)) (ne_eqb kept.uid uid ne) ∙ ih ∙ sym (hits-other test kept messages uid ne) ]
+      | inl e ↦
+          let none = hits-none test messages uid (kept_at-below uid messages (Every-weaker (λ (k : Kept). kept.uid < k.uid) (λ (k : Kept). uid < k.uid) (λ k a. omega arith) messages r.0)) in
+          split ∙ here_step (test kept.uid kept.flags) kept.uid uid (uids_of (filter (λ k. test k.uid k.flags) messages)) (eq-eqb kept.uid uid e) (ih ∙ none) ∙ sym (hits-here test kept messages uid e)
+      | inr ne ↦ split ∙ other_step (test kept.uid kept.flags) kept.uid uid (uids_of (filter (λ k. test k.uid k.flags) messages)) (ne_eqb kept.uid uid ne) ∙ ih ∙ sym (hits-other test kept messages uid ne)
+    ]

@@ -1,5 +1,5 @@
 -- What a client has still to be told of a mailbox.
-use Rattle.std.specs.Prelude.{◌≡◌, ℕ, Bool, true, false, ◌||◌, ◌⊎◌, ◌↔◌, List, [], ◌∷◌, Option, None, Some, is_none, if◌then◌else◌}
+use Rattle.std.specs.Prelude.{◌≡◌, ℕ, Bool, false, ◌||◌, ◌⊎◌, ◌↔◌, List, [], ◌∷◌, Option, None, Some, is_none, if◌then◌else◌}
 use Rattle.pc_history.specs.declared.kept.Listed.{Listed}
 use Rattle.pc_history.specs.Effect.{begins, forgets}
 use Rattle.pc_history.specs.Known.{stamps}

@@ -4,6 +4,7 @@
 mod entry;
 mod flags;
 mod kept;
+pub mod laws;
 mod limits;
 pub mod samples;
 
