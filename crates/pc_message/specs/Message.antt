@@ -5,3 +5,7 @@ use Rattle.std.specs.Prelude.{ℕ, ◌+◌, List, [], ◌∷◌, length}
 abbrev pub size_of : List (List ℕ) → ℕ
 size_of [] = 0
 size_of (line ∷ lines) = length line + 2 + size_of lines
+
+-- what a kept message counts for
+abbrev pub weight_of : List (List ℕ) → ℕ
+weight_of lines = size_of lines + 256

@@ -1,8 +1,10 @@
 //! A message: a list of lines of bounded size.
 
-ghost use Rattle.std.specs.Prelude.{◌≡◌, ℕ, ◌+◌, ◌<◌, ◌≤◌, List, [], ◌∷◌, ◌++◌, IfOk, MatchResult};
+ghost use Rattle.std.specs.Prelude.{◌≡◌, ℕ, ◌+◌, ◌≤◌, IfOk, IfErr, IsTrue};
+ghost use Rattle.pc_base.specs.Line.{is_line};
 ghost use Rattle.std.specs.Option.{SomeIff};
-ghost use Rattle.pc_message.specs.Message.{size_of};
+ghost use Rattle.std.specs.Result.{OkIff};
+ghost use Rattle.pc_message.specs.Message.{size_of, weight_of};
 
 use pc_base::{Line, LineFault, Lines, Memory};
 use std::alloc::Global;
@@ -12,28 +14,30 @@ use std::marker::Model;
 #[derive(Drop)]
 pub struct Message {
     lines: Lines,
+    bytes: u32,
 }
 
 impl Model for Message {
-    ghost use Rattle.std.specs.Prelude.{ℕ, List, ◌≤◌};
+    ghost use Rattle.std.specs.Prelude.{◌≡◌, ℕ, List, ◌≤◌};
     ghost use Rattle.pc_message.specs.Message.{size_of};
 
     ghost Value = { List (List ℕ) };
 
     ghost view = { λ message. message.lines };
 
-    ghost invariant = { λ message. size_of message.lines ≤ 65536 };
+    ghost invariant = { λ message. (message.bytes ≡ size_of message.lines) × (message.bytes ≤ 65536) };
 }
 
 impl Message {
     /// The message of these lines. They are handed back exactly where their size passes 65,536 bytes.
     pub fn of(lines: Lines) -> Result<Message, Lines>
-        ensures { MatchResult result (λ message. (message ≡ lines) × (size_of lines ≤ 65536)) (λ back. (back ≡ lines) × (65536 < size_of lines)) }
+        ensures message { OkIff result (size_of lines ≤ 65536) lines }
+        ensures back { IfErr result (λ back. back ≡ lines) }
     {
-        if size_within(lines.as_slice()).is_none() {
-            return Err(lines);
+        match size_within(lines.as_slice()) {
+            Some(bytes) => Ok(Message { lines, bytes }),
+            None => Err(lines),
         }
-        Ok(Message { lines })
     }
 
     /// The bytes of all lines, with two for the end of each.
@@ -41,7 +45,7 @@ impl Message {
         ensures size { result ≡ size_of self.now }
         ensures bound { result ≤ 65536 }
     {
-        size_within(self.lines.as_slice()).unwrap()
+        self.bytes
     }
 
     /// The lines, in order.
@@ -53,7 +57,7 @@ impl Message {
 
     /// What a kept message counts for: its size and 256 bytes more.
     pub fn weight(&self) -> u32
-        ensures weight { result ≡ size_of self.now + 256 }
+        ensures weight { result ≡ weight_of self.now }
         ensures bound { result ≤ 65792 }
     {
         self.size() + 256
@@ -65,6 +69,7 @@ impl Message {
     {
         Ok(Message {
             lines: copy_of_lines(alloc, self.lines.as_slice())?,
+            bytes: self.bytes,
         })
     }
 }
@@ -88,16 +93,18 @@ fn copy_of_lines(alloc: Global, lines: &[Line]) -> Result<Lines, Memory>
 {
     let mut copy = Lines::new(alloc);
     for line in lines {
-        copy.push(copy_of_line(alloc, line)?)?;
+        copy.push(line_of(alloc, line.bytes())?)?;
     }
     Ok(copy)
 }
 
-fn copy_of_line(alloc: Global, line: &Line) -> Result<Line, Memory>
-    ensures { IfOk result (λ copy. copy ≡ line.now) }
+/// A line of bytes that are known to be one.
+pub fn line_of(alloc: Global, bytes: &[u8]) -> Result<Line, Memory>
+    requires { IsTrue (is_line bytes.now) }
+    ensures { IfOk result (λ line. line ≡ bytes.now) }
 {
-    match Line::copy_of(alloc, line.bytes()) {
-        Ok(copy) => Ok(copy),
+    match Line::copy_of(alloc, bytes) {
+        Ok(line) => Ok(line),
         Err(LineFault::Memory) => Err(Memory),
         Err(_) => unreachable!(),
     }
