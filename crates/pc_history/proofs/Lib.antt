@@ -1,3 +1,5 @@
+pub mod Within
+pub mod Numbers
 pub mod Alike
 pub mod Steps
 pub mod Lists

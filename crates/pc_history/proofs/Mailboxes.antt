@@ -100,7 +100,7 @@ pub IsMailbox-mailbox_of : (r : AccountRecord) (number : ℕ) (mailbox : List �
 IsMailbox-mailbox_of r number mailbox formed = mailbox_of-has (IsMailbox number r.clients) r mailbox formed.live (Every-weaker (λ (entry : List ℕ × MailboxRecord). IsMailbox number r.clients entry.1 × (entry.1.messages ≡ [])) (λ (entry : List ℕ × MailboxRecord). IsMailbox number r.clients entry.1) (λ entry h. h.0) r.dropped formed.dropped) (IsMailbox-new number r.clients)
 
 -- a mailbox in which a message lives is one that lives
-lives-from_kept : (r : AccountRecord) (number uid : ℕ) (mailbox : List ℕ) → IsWellFormed r number → is_some (kept_at uid (mailbox_of r mailbox).messages) ≡ true → is_some (lookup (same mailbox) r.live) ≡ true
+pub lives-from_kept : (r : AccountRecord) (number uid : ℕ) (mailbox : List ℕ) → IsWellFormed r number → is_some (kept_at uid (mailbox_of r mailbox).messages) ≡ true → is_some (lookup (same mailbox) r.live) ≡ true
 lives-from_kept r number uid mailbox formed =
     let other = unwrap_or (lookup (same mailbox) r.dropped) (new_mailbox r.clients) in
     let none : other.messages ≡ [] = unwrap_or-has (λ (box : MailboxRecord). box.messages ≡ []) (lookup (same mailbox) r.dropped) (new_mailbox r.clients) (Every-found (λ (box : MailboxRecord). box.messages ≡ []) (same mailbox) r.dropped (Every-weaker (λ (entry : List ℕ × MailboxRecord). IsMailbox number r.clients entry.1 × (entry.1.messages ≡ [])) (λ (entry : List ℕ × MailboxRecord). entry.1.messages ≡ []) (λ entry h. h.1) r.dropped formed.dropped)) refl in

@@ -12,7 +12,7 @@ use Rattle.pc_history.specs.Record.{MailboxRecord, AccountRecord}
 use Rattle.pc_history.specs.Known.{Known, said_by}
 use Rattle.pc_history.specs.History.{History, start, ◌▸◌, known}
 use Rattle.pc_history.specs.Allowed.{is_allowed}
-use Rattle.pc_history.specs.Limits.{is_passed, limit_passed}
+use Rattle.pc_history.specs.Limits.{limit_passed, IsWithin, limits_of_bases}
 
 -- the relation holds of each item and each later one
 abbrev pub Ordered : {X : Type 0} → (X → X → Type 0) → List X → Type 0
@@ -70,13 +70,6 @@ pub record IsWellFormed (r : AccountRecord) (number : ℕ) : Type 0 where
   pub dropped : AllByRecursion (λ (mailbox : List ℕ × MailboxRecord). IsMailbox number r.clients mailbox.1 × (mailbox.1.messages ≡ [])) r.dropped
   pub boards : AreDistinct (keys_of r.subscriptions)
   pub pulled : r.pulled ≤ LAST_MAIL
-
--- the limits that hold at every place of a legal history, whatever its base
-abbrev pub limits_of_bases : List LimitWord
-limits_of_bases = limit.Clients ∷ limit.Mailboxes ∷ limit.Uids ∷ limit.Messages ∷ limit.Bytes ∷ limit.Subscriptions ∷ []
-
-abbrev pub IsWithin : Known → List LimitWord → Type 0
-IsWithin k limits = AllByRecursion (λ limit. is_passed k limit ≡ false) limits
 
 -- a canonical record, whose next entry has this number
 pub record IsCanonical (r : AccountRecord) (number : ℕ) : Type 0 where

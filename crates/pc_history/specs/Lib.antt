@@ -9,6 +9,7 @@ pub mod Allowed
 pub mod Limits
 pub mod Step
 pub mod Legal
+pub mod Answers
 pub mod UpdateList
 pub mod Laws
 pub mod Samples

@@ -156,12 +156,11 @@ names count = map (λ letter. 110 ∷ letter ∷ []) (numbers 47 count)
 abbrev pub full_record : AccountRecord
 full_record = record empty_record { clients = map (λ name. (name, 1)) (names 16); subscriptions = map (λ name. (name, 0)) (names 64) }
 
--- the first limit in their order is told, and what raises no number meets none
+-- where several limits would be passed the first in their order is told, and an entry meets the limits that it can pass and no other
 abbrev pub FirstLimit : Type 0
 FirstLimit = (limit_passed (known (start full_record 9)) (MakeClient box) ≡ Some limit.Clients)
-    × (limit_passed (known (start full_record 9 ▸ MakeClient box)) (Subscribe box) ≡ Some limit.Clients)
     × (limit_passed (known (start full_record 9)) (Subscribe box) ≡ Some limit.Subscriptions)
     × (limit_passed (known (start full_record 9)) (MakeMailbox box) ≡ None)
-    × (limit_passed (known (start full_record 9 ▸ MakeClient box)) (Password []) ≡ None)
+    × (limit_passed (known (start full_record 9)) (Password []) ≡ None)
     × (listed_count (known flag_between) ≡ 6)
     × (weight (known copied) ≡ 1044)

@@ -3,7 +3,8 @@ use Rattle.std.proofs.Common.{refl, sym}
 use Rattle.pc_history.specs.History.{◌▸▸◌}
 use Rattle.pc_history.specs.Laws.{folded}
 use Rattle.pc_history.proofs.Alike.{AnswerAlike-known}
-use Rattle.pc_history.proofs.Histories.{Stands-legal, IsCanonical-legal, known-behind, IsLegal-behind, record_of-behind}
+use Rattle.pc_history.proofs.Within.{IsCanonical-legal}
+use Rattle.pc_history.proofs.Histories.{Stands-legal, known-behind, IsLegal-behind, record_of-behind}
 use Rattle.pc_history.proofs.laws.record_in_place_of_history.Goals as goal
 
 pub returns : goal.returns

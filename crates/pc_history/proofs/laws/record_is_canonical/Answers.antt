@@ -1,4 +1,4 @@
-use Rattle.pc_history.proofs.Histories.{IsCanonical-legal}
+use Rattle.pc_history.proofs.Within.{IsCanonical-legal}
 use Rattle.pc_history.proofs.laws.record_is_canonical.Goals as goal
 
 pub returns : goal.returns
