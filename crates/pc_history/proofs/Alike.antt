@@ -4,7 +4,8 @@ use Rattle.std.specs.Map.{lookup}
 use Rattle.pc_history.specs.Table.{same}
 use Rattle.pc_history.specs.Known.{Known}
 use Rattle.pc_history.specs.History.{History, known}
-use Rattle.pc_history.specs.Allowed.{is_allowed}
+use Rattle.pc_history.specs.Allowed.{is_allowed, messages}
+use Rattle.pc_history.specs.Answers.{descriptors, changed}
 use Rattle.pc_history.specs.Limits.{limit_passed}
 use Rattle.pc_history.specs.Laws.{AnswerAlike}
 
@@ -22,6 +23,9 @@ AnswerAlike-known g h e = record {
   kept = λ mailbox uid. ap (λ (k : Known). k.kept mailbox uid) e;
   listed = λ client mailbox uid. ap (λ (k : Known). k.listed client mailbox uid) e;
   changes = λ client mailbox. ap (λ (k : Known). k.changes client mailbox) e;
+  messages = λ mailbox. ap (λ (k : Known). messages k mailbox) e;
+  descriptors = λ mailbox. ap (λ (k : Known). descriptors k mailbox) e;
+  changed = λ client mailbox count. ap (λ (k : Known). changed k client mailbox count) e;
   allowed = λ entry. ap (λ (k : Known). is_allowed k entry) e;
   limits = λ entry. ap (λ (k : Known). limit_passed k entry) e;
 }

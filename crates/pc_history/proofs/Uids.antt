@@ -1,7 +1,7 @@
 -- Uids that rise, what a list of messages has at a uid, and which uids pass a test.
-use Rattle.std.proofs.Common.{◌≡◌, ℕ, zero, suc, ◌+◌, ◌<◌, ◌≤◌, ◌==◌, Bool, true, false, cond, ◌&&◌, ◌||◌, nat_lt, nat_le, List, [], ◌∷◌, ◌++◌, filter, None, refl, sym, ◌∙◌, ap, arith, add-zero, zero-add, suc-add, lt-ltb, le-ltb, le-leb, inl, inr, eq-eqb, ne_eqb}
+use Rattle.std.proofs.Common.{◌≡◌, ℕ, zero, suc, ◌+◌, ◌<◌, ◌≤◌, ◌==◌, Bool, true, false, cond, ◌&&◌, ◌||◌, nat_lt, nat_le, List, [], ◌∷◌, ◌++◌, filter, Option, None, refl, sym, ◌∙◌, ap, arith, add-zero, zero-add, suc-add, lt-ltb, le-ltb, le-leb, inl, inr, eq-eqb, ne_eqb}
 use Rattle.std.proofs.lemmas.Bool.{cases_order, cases_eq, cases_lt, lt-leb}
-use Rattle.std.specs.List.{AllByRecursion as Every}
+use Rattle.std.specs.List.{AllByRecursion as Every, filter_map, cons_option}
 use Rattle.std.specs.Option.{option_map_or}
 use Rattle.pc_history.specs.declared.kept.Kept.{Kept}
 use Rattle.pc_history.specs.Table.{has_number, numbers}
@@ -162,3 +162,29 @@ has_number-uids test uid (kept ∷ messages) r =
           split ∙ here_step (test kept.uid kept.flags) kept.uid uid (uids_of (filter (λ k. test k.uid k.flags) messages)) (eq-eqb kept.uid uid e) (ih ∙ none) ∙ sym (hits-here test kept messages uid e)
       | inr ne ↦ split ∙ other_step (test kept.uid kept.flags) kept.uid uid (uids_of (filter (λ k. test k.uid k.flags) messages)) (ne_eqb kept.uid uid ne) ∙ ih ∙ sym (hits-other test kept messages uid ne)
     ]
+
+-- ---- all messages, uid by uid
+
+filter_map-agree : {X Y : Type 0} (f g : X → Option Y) (xs : List X) → Every (λ x. f x ≡ g x) xs → filter_map f xs ≡ filter_map g xs
+filter_map-agree f g [] h = refl
+filter_map-agree f g (x ∷ xs) h = λ i. cons_option (h.0 i) (filter_map-agree f g xs h.1 i)
+
+filter_map-none : {X Y : Type 0} (f : X → Option Y) (xs : List X) → Every (λ x. f x ≡ None) xs → filter_map f xs ≡ []
+filter_map-none f [] h = refl
+filter_map-none f (x ∷ xs) h = (λ i. cons_option (h.0 i) (filter_map f xs)) ∙ filter_map-none f xs h.1
+
+-- the messages at the uids up to a bound are all of them
+pub kept_at-all : (low count : ℕ) (messages : List Kept) → Rising messages → Every (λ (kept : Kept). (low < kept.uid) × (kept.uid ≤ low + count)) messages → filter_map (λ uid. kept_at uid messages) (numbers low count) ≡ messages
+kept_at-all low zero [] r h = refl
+kept_at-all low zero (kept ∷ messages) r h = absurd (omega (arith, h.0.0, h.0.1))
+kept_at-all low (suc count) [] r h = filter_map-none (λ uid. kept_at uid []) (numbers (suc low) count) (Every-from (λ uid. kept_at uid [] ≡ None) (λ uid. refl) (numbers (suc low) count))
+kept_at-all low (suc count) (kept ∷ messages) r h =
+    let later : Every (λ (k : Kept). (suc low < k.uid) × (k.uid ≤ suc low + count)) messages = Every-zip (λ (k : Kept). kept.uid < k.uid) (λ (k : Kept). (low < k.uid) × (k.uid ≤ low + suc count)) (λ (k : Kept). (suc low < k.uid) × (k.uid ≤ suc low + count)) (λ k a b. (omega (arith, h.0.0), omega (arith, b.1))) messages r.0 h.1 in
+    elim (cases_eq kept.uid (suc low)) [
+      inl e ↦
+        let rest = filter_map-agree (λ uid. kept_at uid (kept ∷ messages)) (λ uid. kept_at uid messages) (numbers (suc low) count) (Every-numbers (λ uid. kept_at uid (kept ∷ messages) ≡ kept_at uid messages) (suc low) count (λ uid a b. rw (ne_eqb kept.uid uid (λ same. absurd (omega arith))))) in
+        rw (eq-eqb kept.uid (suc low) e) (ap (λ list. kept ∷ list) (rest ∙ kept_at-all (suc low) count messages r.1 later))
+    | inr ne ↦
+        let above : suc low < kept.uid = omega (arith, h.0.0) in
+        let none = kept_at-below (suc low) (kept ∷ messages) (above, Every-weaker (λ (k : Kept). (suc low < k.uid) × (k.uid ≤ suc low + count)) (λ (k : Kept). suc low < k.uid) (λ k a. a.0) messages later) in
+        (λ i. cons_option (none i) (filter_map (λ uid. kept_at uid (kept ∷ messages)) (numbers (suc low) count))) ∙ kept_at-all (suc low) count (kept ∷ messages) r ((above, omega (arith, h.0.1)), later) ]

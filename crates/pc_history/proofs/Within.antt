@@ -219,3 +219,17 @@ changes-legal (h ▸ e) legal base = changes-within (known h) (KnowsNames-legal 
 -- the record of a legal history is canonical
 pub IsCanonical-legal : (h : History) → IsLegal h → IsCanonical (record_of h) (next h)
 IsCanonical-legal h legal = let stands = Stands-legal h legal in record { well_formed = stands.formed; within = subst (λ k. IsWithin k limits_of_bases) stands.alike (IsWithin-legal h legal) }
+
+-- ---- what is told
+
+one-same : {X : Type 0} (x y : X) → ◌≡◌ {A = Option X} (Some x) (Some y) → x ≡ y
+one-same x y e = cc
+
+pub found-passes : {X : Type 0} (p : X → Bool) (xs : List X) (found : X) → find p xs ≡ Some found → p found ≡ true
+found-passes p [] found h = absurd (none-one found h)
+  where
+    none-one : {Y : Type 0} (y : Y) → ◌≡◌ {A = Option Y} None (Some y) → ⊥
+    none-one y g = cc
+found-passes {X} p (x ∷ xs) found h = elim (p x) as (λ b. p x ≡ b → ◌≡◌ {A = Option X} (cond b (Some x) (find p xs)) (Some found) → p found ≡ true) [
+    true ↦ λ e g. ap p (sym (one-same x found g)) ∙ e
+  | false ↦ λ e g. found-passes p xs found g ] refl h

@@ -1,14 +1,18 @@
 -- What holds of every legal history.
 use Rattle.std.specs.Prelude.{◌≡◌, ℕ, ◌<◌, ◌==◌, Bool, true, false, ◌↔◌, ◌⊎◌, List, [], MatchOption, is_some, Some, if◌then◌else◌}
+use Rattle.pc_base.specs.declared.refusal.LimitWord.{LimitWord}
+use Rattle.pc_base.specs.declared.refusal.LimitWord.TheVariants.{Changes}
 use Rattle.pc_history.specs.declared.entry.Entry.{Entry}
+use Rattle.pc_history.specs.Record.{AccountRecord, mailbox_of}
 use Rattle.pc_history.specs.Flags.{flag_of, flags_with}
 use Rattle.pc_history.specs.Effect.{begins}
-use Rattle.pc_history.specs.Known.{touches}
-use Rattle.pc_history.specs.History.{History, start, ◌▸◌, ◌▸▸◌, known, next, birth}
-use Rattle.pc_history.specs.Allowed.{is_allowed, is_client}
-use Rattle.pc_history.specs.Limits.{limit_passed}
+use Rattle.pc_history.specs.Known.{said_by, touches}
+use Rattle.pc_history.specs.History.{History, start, ◌▸◌, ◌▸▸◌, known, next, birth, base_of}
+use Rattle.pc_history.specs.Allowed.{is_allowed, is_client, messages}
+use Rattle.pc_history.specs.Answers.{descriptors, changed}
+use Rattle.pc_history.specs.Limits.{is_passed, limit_passed, IsWithin, limits_of_bases}
 use Rattle.pc_history.specs.Step.{record_of}
-use Rattle.pc_history.specs.Legal.{IsUpdateList, IsCanonical, IsLegal}
+use Rattle.pc_history.specs.Legal.{IsUpdateList, IsWellFormed, IsCanonical, IsLegal}
 use Rattle.pc_history.specs.UpdateList.{IsListFor, is_taken}
 
 -- two histories answer every question alike
@@ -25,6 +29,9 @@ pub record AnswerAlike (g h : History) : Type 0 where
   pub kept : (mailbox : List ℕ) (uid : ℕ) → (known g).kept mailbox uid ≡ (known h).kept mailbox uid
   pub listed : (client mailbox : List ℕ) (uid : ℕ) → (known g).listed client mailbox uid ≡ (known h).listed client mailbox uid
   pub changes : (client mailbox : List ℕ) → (known g).changes client mailbox ≡ (known h).changes client mailbox
+  pub messages : (mailbox : List ℕ) → messages (known g) mailbox ≡ messages (known h) mailbox
+  pub descriptors : (mailbox : List ℕ) → descriptors (known g) mailbox ≡ descriptors (known h) mailbox
+  pub changed : (client mailbox : List ℕ) (count : ℕ) → changed (known g) client mailbox count ≡ changed (known h) client mailbox count
   pub allowed : (e : Entry) → is_allowed (known g) e ≡ is_allowed (known h) e
   pub limits : (e : Entry) → limit_passed (known g) e ≡ limit_passed (known h) e
 
@@ -48,6 +55,18 @@ ChangesAreTheUpdateList = (h : History) → IsLegal h → (client mailbox : List
 -- a client was born by an entry of the history, and its lists have given uids with stamps of entries since then; there are no other lists
 abbrev pub StampsAreNumbersOfEntries : Type 0
 StampsAreNumbersOfEntries = (h : History) → IsLegal h → (client mailbox : List ℕ) → MatchOption (birth h client) ((known h).changes client mailbox ≡ []) (λ born. (0 < born) × (born < next h) × IsUpdateList (next h) ((known h).highest mailbox) born ((known h).changes client mailbox))
+
+-- every limit but that of changes holds at each place, and that of changes where it does in the base
+abbrev pub LimitsHold : Type 0
+LimitsHold = (h : History) → IsLegal h → IsWithin (known h) limits_of_bases × (is_passed (known (base_of h)) Changes ≡ false → is_passed (known h) Changes ≡ false)
+
+-- an entry is refused for a limit only where the history with the entry passes it
+abbrev pub LimitIsPassed : Type 0
+LimitIsPassed = (h : History) (e : Entry) (limit : LimitWord) → limit_passed (known h) e ≡ Some limit → is_passed (known (h ▸ e)) limit ≡ true
+
+-- the messages of a mailbox are those that the record holds
+abbrev pub RecordHoldsMessages : Type 0
+RecordHoldsMessages = (r : AccountRecord) (number : ℕ) (mailbox : List ℕ) → IsWellFormed r number → messages (said_by r number) mailbox ≡ (mailbox_of r mailbox).messages
 
 -- ---- one entry more
 

@@ -1,6 +1,6 @@
 //! What holds of every legal history. Each law is the contract of a function that does nothing.
 
-ghost use Rattle.pc_history.specs.Laws.{RecordAnswersAsHistory, RecordInPlaceOfHistory, RecordIsCanonical, ChangesAreTheUpdateList, StampsAreNumbersOfEntries, UntouchedStays, UnlistedWasTaken, ClientStays, SameStampSameMessage, OneFlagIsSet};
+ghost use Rattle.pc_history.specs.Laws.{RecordAnswersAsHistory, RecordInPlaceOfHistory, RecordIsCanonical, ChangesAreTheUpdateList, StampsAreNumbersOfEntries, LimitsHold, LimitIsPassed, RecordHoldsMessages, UntouchedStays, UnlistedWasTaken, ClientStays, SameStampSameMessage, OneFlagIsSet};
 
 /// The record of a history answers every question as the history does.
 pub fn record_answers_as_history()
@@ -26,6 +26,24 @@ pub fn changes_are_the_update_list()
 pub fn stamps_are_numbers_of_entries()
     ensures { StampsAreNumbersOfEntries }
 {}
+
+/// No limit is passed at any place of a legal history. That of changes may be where its base passes it.
+pub fn limits_hold()
+    ensures { LimitsHold }
+{
+}
+
+/// A limit is told only where it would be passed.
+pub fn limit_is_passed()
+    ensures { LimitIsPassed }
+{
+}
+
+/// A record holds the messages of a mailbox as its history has them.
+pub fn record_holds_messages()
+    ensures { RecordHoldsMessages }
+{
+}
 
 /// An entry that doesn't touch a message for a client leaves it as it was.
 pub fn untouched_stays()
