@@ -3,8 +3,13 @@ use Rattle.std.specs.Prelude.{◌≡◌, ℕ, true, false, List, [], ◌∷◌, 
 use Rattle.std.specs.Option.{option_map}
 use Rattle.pc_history.specs.Table.{numbers}
 use Rattle.pc_base.specs.declared.refusal.LimitWord.TheVariants as limit
+use Rattle.pc_history.specs.declared.kept.Listed.{Listed}
 use Rattle.pc_history.specs.declared.entry.Entry.TheVariants.{MakeMailbox, DropMailbox, Flag, Expunge, Copy, MakeClient, DropClient, ResetClient, ResetMailbox, Forget, Pull, Password, Subscribe, Unsubscribe, Mark}
-use Rattle.pc_history.specs.Record.{AccountRecord, empty_record}
+use Rattle.pc_history.specs.Record.{AccountRecord, empty_record, mailbox_of, list_of}
+use Rattle.pc_history.specs.Effect.{arrived}
+use Rattle.pc_history.specs.Step.{record_of}
+use Rattle.pc_history.specs.Legal.{IsLegal}
+use Rattle.std.specs.Map.{keys_of}
 use Rattle.pc_history.specs.History.{History, ◌▸◌, new_account, known, birth, start}
 use Rattle.pc_history.specs.Allowed.{is_allowed, is_mailbox}
 use Rattle.pc_history.specs.Limits.{limit_passed, listed_count, weight}
@@ -29,9 +34,12 @@ note = codes "one" ∷ []
 abbrev pub notes_to : List ℕ → ℕ → List (List ℕ × List (List ℕ))
 notes_to mailbox count = replicate count (mailbox, note)
 
--- the list of a client as pairs of uid and stamp
+-- a list as pairs of uid and stamp
+abbrev pub pairs_of : List Listed → List (ℕ × ℕ)
+pairs_of list = map (λ listed. (listed.uid, listed.stamp)) list
+
 abbrev pub list_in : History → List ℕ → List ℕ → List (ℕ × ℕ)
-list_in h client mailbox = map (λ listed. (listed.uid, listed.stamp)) ((known h).changes client mailbox)
+list_in h client mailbox = pairs_of ((known h).changes client mailbox)
 
 -- the flags of a message that lives
 abbrev pub flags_in : History → List ℕ → ℕ → Option ℕ
@@ -164,3 +172,15 @@ FirstLimit = (limit_passed (known (start full_record 9)) (MakeClient box) ≡ So
     × (limit_passed (known (start full_record 9)) (Password []) ≡ None)
     × (listed_count (known flag_between) ≡ 6)
     × (weight (known copied) ≡ 1044)
+
+-- a new account is legal, and so are the histories above
+abbrev pub SamplesAreLegal : Type 0
+SamplesAreLegal = IsLegal new_account × IsLegal touched_again × IsLegal expunged × IsLegal made_again × IsLegal copied × IsLegal client_again
+
+-- the record of a mailbox that was made again: the uids go on, and the list tells of those that are gone
+abbrev pub RecordOfMadeAgain : Type 0
+RecordOfMadeAgain = ((mailbox_of (record_of made_again) work).highest ≡ 4)
+    × ((mailbox_of (record_of made_again) work).messages ≡ arrived 4 note ∷ [])
+    × (pairs_of (list_of (mailbox_of (record_of made_again) work) second_client) ≡ (1, 6) ∷ (2, 6) ∷ (3, 6) ∷ (4, 8) ∷ [])
+    × (keys_of (record_of made_again).live ≡ box ∷ work ∷ [])
+    × (keys_of (record_of (work_pulled ▸ DropMailbox work)).dropped ≡ work ∷ [])

@@ -7,6 +7,8 @@ mod kept;
 pub mod laws;
 mod limits;
 pub mod samples;
+#[cfg(test)]
+mod tests;
 
 pub use entry::Entry;
 pub use flags::{is_on, with_flag};

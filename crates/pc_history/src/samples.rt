@@ -1,6 +1,6 @@
 //! Small histories, with what their answers must be. Each law is the contract of a function that does nothing.
 
-ghost use Rattle.pc_history.specs.Samples.{FlagBetween, NothingTwice, TouchedAgain, ExpungeIsSeen, MadeAgain, CopyIsNotDeleted, ClientAgain, ResetOfOne, SubscribedAgain, FirstLimit};
+ghost use Rattle.pc_history.specs.Samples.{FlagBetween, NothingTwice, TouchedAgain, ExpungeIsSeen, MadeAgain, CopyIsNotDeleted, ClientAgain, ResetOfOne, SubscribedAgain, FirstLimit, SamplesAreLegal, RecordOfMadeAgain};
 
 /// A client is shown five changes, a flag is set, and the client takes what it was shown: the flagged one stays listed.
 pub fn a_flag_between()
@@ -51,3 +51,15 @@ pub fn subscribed_again()
 pub fn first_limit()
     ensures { FirstLimit }
 {}
+
+/// The samples are legal histories.
+pub fn samples_are_legal()
+    ensures { SamplesAreLegal }
+{
+}
+
+/// What the record keeps of a mailbox that was made again.
+pub fn record_of_made_again()
+    ensures { RecordOfMadeAgain }
+{
+}
