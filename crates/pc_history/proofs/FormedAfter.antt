@@ -19,7 +19,7 @@ use Rattle.pc_history.specs.Allowed.{is_allowed}
 use Rattle.pc_history.specs.Step.{uids_of, with_message, with_flag_set, expunged, emptied, with_client, without_client, reset_for, taken_by, at_mailbox, after}
 use Rattle.pc_history.specs.Legal.{Ordered, AreDistinct, IsMailbox, IsWellFormed}
 use Rattle.pc_history.proofs.Needs.{pull-parts}
-use Rattle.pc_history.proofs.Tables.{same-true, same-sym, same-refl, lookup-append, keys-others, keys-append, keys-set_value, some-from_map_or}
+use Rattle.pc_history.proofs.Tables.{lookup-absent, same-true, same-sym, same-refl, lookup-append, keys-others, keys-append, keys-set_value, some-from_map_or}
 use Rattle.pc_history.proofs.Uids.{Every-weaker, Every-append, Every-filter, Every-zip}
 use Rattle.pc_history.proofs.Mailboxes.{box_by, mailbox_of-after, IsMailbox-mailbox_of}
 use Rattle.pc_history.proofs.Agreement.{Fields-after, letters-dropped}
@@ -67,23 +67,19 @@ module _ (r : AccountRecord) (number : ℕ) (mailbox : List ℕ) (formed : IsWel
 
 -- ---- the tables of mailboxes
 
-lookup-none : {X : Type 0} (asked : List ℕ) (table : List (List ℕ × X)) → Every (λ (name : List ℕ). same asked name ≡ false) (keys_of table) → lookup (same asked) table ≡ None
-lookup-none asked [] h = refl
-lookup-none asked (entry ∷ table) h = rw h.0 (lookup-none asked table h.1)
-
 -- what holds of all that is found holds of the whole table, where no name comes twice
-Every-from_lookups : {X : Type 0} (P : X → Type 0) (table : List (List ℕ × X)) → AreDistinct (keys_of table) → ((asked : List ℕ) → MatchOption (lookup (same asked) table) ⊤ P) → Every (λ (entry : List ℕ × X). P entry.1) table
+pub Every-from_lookups : {X : Type 0} (P : List ℕ → X → Type 0) (table : List (List ℕ × X)) → AreDistinct (keys_of table) → ((asked : List ℕ) → MatchOption (lookup (same asked) table) ⊤ (P asked)) → Every (λ (entry : List ℕ × X). P entry.0 entry.1) table
 Every-from_lookups P [] distinct f = tt
 Every-from_lookups {X} P (entry ∷ table) distinct f =
-    let here : MatchOption (cond true (Some entry.1) (lookup (same entry.0) table)) ⊤ P = subst (λ b. MatchOption (cond b (Some entry.1) (lookup (same entry.0) table)) ⊤ P) (same-refl entry.0) (f entry.0) in (
+    let here : MatchOption (cond true (Some entry.1) (lookup (same entry.0) table)) ⊤ (P entry.0) = subst (λ b. MatchOption (cond b (Some entry.1) (lookup (same entry.0) table)) ⊤ (P entry.0)) (same-refl entry.0) (f entry.0) in (
       here,
-      Every-from_lookups P table distinct.1 (λ asked. elim (same asked entry.0) as (λ b. same asked entry.0 ≡ b → MatchOption (cond b (Some entry.1) (lookup (same asked) table)) ⊤ P → MatchOption (lookup (same asked) table) ⊤ P) [
-        | true ↦ λ e g. subst (λ (o : Option X). MatchOption o ⊤ P) (sym (lookup-none asked table (Every-weaker (λ name. same entry.0 name ≡ false) (λ name. same asked name ≡ false) (λ name a. rw (same-true asked entry.0 e) a) (keys_of table) distinct.0))) tt
+      Every-from_lookups P table distinct.1 (λ asked. elim (same asked entry.0) as (λ b. same asked entry.0 ≡ b → MatchOption (cond b (Some entry.1) (lookup (same asked) table)) ⊤ (P asked) → MatchOption (lookup (same asked) table) ⊤ (P asked)) [
+        | true ↦ λ e g. subst (λ (o : Option X). MatchOption o ⊤ (P asked)) (sym (lookup-absent asked table (Every-weaker (λ name. same entry.0 name ≡ false) (λ name. same asked name ≡ false) (λ name a. rw (same-true asked entry.0 e) a) (keys_of table) distinct.0))) tt
         | false ↦ λ e g. g
       ] refl (f asked)),
     )
 
-Every-split : {X : Type 0} (P : X → Type 0) (xs ys : List X) → Every P (xs ++ ys) → Every P xs × Every P ys
+pub Every-split : {X : Type 0} (P : X → Type 0) (xs ys : List X) → Every P (xs ++ ys) → Every P xs × Every P ys
 Every-split P [] ys h = (tt, h)
 Every-split P (x ∷ xs) ys h = let rest = Every-split P xs ys h.1 in ((h.0, rest.0), rest.1)
 
@@ -96,7 +92,7 @@ found-has P (Some one) dropped new h = h
 Every-mailbox : (P : MailboxRecord → Type 0) (r : AccountRecord) → AreDistinct (keys_of r.live ++ keys_of r.dropped) → ((mailbox : List ℕ) → P (mailbox_of r mailbox)) → Every (λ (entry : List ℕ × MailboxRecord). P entry.1) r.live × Every (λ (entry : List ℕ × MailboxRecord). P entry.1) r.dropped
 Every-mailbox P r distinct f =
     Every-split (λ (entry : List ℕ × MailboxRecord). P entry.1) r.live r.dropped
-    (Every-from_lookups P (r.live ++ r.dropped) (subst AreDistinct (sym (keys-append r.live r.dropped)) distinct)
+    (Every-from_lookups (λ _. P) (r.live ++ r.dropped) (subst AreDistinct (sym (keys-append r.live r.dropped)) distinct)
     (λ mailbox. subst (λ (o : Option MailboxRecord). MatchOption o ⊤ P) (sym (lookup-append (same mailbox) r.live r.dropped)) (found-has P (lookup (same mailbox) r.live) (lookup (same mailbox) r.dropped) (new_mailbox r.clients) (f mailbox))))
 
 -- ---- names

@@ -1,20 +1,13 @@
 -- The record of a legal history answers as the history does.
-use Rattle.std.proofs.Common.{◌≡◌, ℕ, suc, ◌+◌, ◌≤◌, Bool, true, false, cond, not, ◌&&◌, nat_lt, nat_le, List, [], ◌∷◌, ◌++◌, length, filter, find, Option, None, Some, option_and_then, refl, sym, ◌∙◌, ap, subst, arith, le_refl, add-zero, true≢false, ltb-false, le-ltb}
-use Rattle.std.specs.List.{AllByRecursion as Every, list_all, filter_map}
-use Rattle.std.proofs.lemmas.Map.{length-set_value}
-use Rattle.pc_base.specs.declared.refusal.LimitWord.{LimitWord}
-use Rattle.pc_history.specs.declared.kept.Kept.{Kept}
+use Rattle.std.proofs.Common.{◌≡◌, suc, true, List, [], ◌∷◌, refl, sym, ◌∙◌, ap}
 use Rattle.pc_history.specs.declared.entry.Entry.{Entry}
-use Rattle.pc_history.specs.declared.entry.Entry.TheVariants.{MakeMailbox, DropClient, Forget, Password, Unsubscribe, Mark}
-use Rattle.pc_history.specs.declared.limits.TheConstants.{MOST_CLIENTS, MOST_MAILBOXES, MOST_SUBSCRIPTIONS, MOST_UIDS, MOST_MESSAGES, MOST_WEIGHT}
-use Rattle.pc_history.specs.Table.{same, numbers, total}
-use Rattle.pc_history.specs.Known.{Known, said_by, after_entry}
+use Rattle.pc_history.specs.Known.{said_by, after_entry}
 use Rattle.pc_history.specs.History.{History, start, ◌▸◌, ◌▸▸◌, known, next}
 use Rattle.pc_history.specs.Allowed.{is_allowed}
 use Rattle.pc_history.specs.Limits.{limit_passed}
 use Rattle.pc_history.specs.Step.{after, record_of}
 use Rattle.pc_history.specs.Legal.{IsWellFormed, IsLegal}
-use Rattle.pc_history.proofs.Agreement.{kept-idle, after-said_by}
+use Rattle.pc_history.proofs.Agreement.{after-said_by}
 use Rattle.pc_history.proofs.FormedAfter.{IsWellFormed-after}
 
 -- ---- the record stands for the history

@@ -1,3 +1,4 @@
+pub mod Counts
 pub mod Within
 pub mod Numbers
 pub mod Alike

@@ -12,6 +12,7 @@ use Rattle.pc_history.specs.History.{History, start, ◌▸◌, known, next, bir
 use Rattle.pc_history.specs.Step.{record_of}
 use Rattle.pc_history.specs.Legal.{Ordered, IsListedBefore, HasOtherUid, IsUpdateList, AreListsOf, IsLegal}
 use Rattle.pc_history.specs.UpdateList.{last_touch, is_taken, IsOn, IsListFor}
+use Rattle.pc_history.proofs.Tables.{some-none, some-same}
 use Rattle.pc_history.proofs.Mailboxes.{IsMailbox-mailbox_of}
 use Rattle.pc_history.proofs.Histories.{Stands-legal}
 
@@ -43,14 +44,8 @@ IsOn-stamp_at listed [] d on = absurd on
 IsOn-stamp_at listed (first ∷ list) d (inl e) = rw (eq-eqb first.uid listed.uid (ap (λ (l : Listed). l.uid) e)) (ap (λ (l : Listed). Some l.stamp) e)
 IsOn-stamp_at listed (first ∷ list) d (inr on) = rw (Every-on (HasOtherUid first) listed list d.0 on) (IsOn-stamp_at listed list d.1 on)
 
-pub some-same : (a b : ℕ) → ◌≡◌ {A = Option ℕ} (Some a) (Some b) → a ≡ b
-some-same a b e = cc
-
-pub none-some : {X : Type 0} (b : X) → ◌≡◌ {A = Option X} None (Some b) → ⊥
-none-some b e = cc
-
 pub stamp_at-IsOn : (uid stamp : ℕ) (list : List Listed) → stamp_at uid list ≡ Some stamp → IsOn (record { uid = uid; stamp = stamp }) list
-stamp_at-IsOn uid stamp [] h = absurd (none-some stamp h)
+stamp_at-IsOn uid stamp [] h = absurd (some-none stamp (sym h))
 stamp_at-IsOn uid stamp (first ∷ list) h =
     elim (cases_eq first.uid uid) [
       | inl here ↦
@@ -97,7 +92,7 @@ pub listed-stamp_at : (h : History) → IsLegal h → (client mailbox : List ℕ
 listed-stamp_at h legal client mailbox uid = subst (λ (k : Known). stamp_at uid (k.changes client mailbox) ≡ k.listed client mailbox uid) (sym (Stands-legal h legal).alike) refl
 
 untaken-touch : (taken : Bool) (touch : Option ℕ) (stamp : ℕ) → cond taken None touch ≡ Some stamp → (touch ≡ Some stamp) × (taken ≡ false)
-untaken-touch true touch stamp h = absurd (none-some stamp h)
+untaken-touch true touch stamp h = absurd (some-none stamp (sym h))
 untaken-touch false touch stamp h = (h, refl)
 
 pub list-for : (h : History) → IsLegal h → (client mailbox : List ℕ) → IsListFor h client mailbox ((known h).changes client mailbox)

@@ -1,31 +1,24 @@
 -- How the numbers of an account follow its entries.
-use Rattle.std.proofs.Common.{◌≡◌, ℕ, suc, ◌+◌, ◌<◌, ◌≤◌, ◌==◌, Bool, true, false, cond, not, ◌&&◌, ◌||◌, nat_lt, nat_le, List, [], ◌∷◌, ◌++◌, length, filter, find, Option, None, Some, is_some, unwrap_or, option_and_then, refl, sym, ◌∙◌, ap, subst, inl, inr, arith, le_refl, le_trans, add-zero, true≢false, ltb-false, le-ltb, append_assoc}
-use Rattle.std.specs.List.{AllByRecursion as Every, list_any, list_all, filter_map, cons_option}
-use Rattle.std.specs.Map.{lookup, keys_of, set_value}
-use Rattle.std.specs.Option.{option_map_or}
-use Rattle.std.proofs.lemmas.Bool.{and_parts, and_from, or_parts, not-false, cases_Bool, false_from_ne_true}
-use Rattle.std.proofs.lemmas.Map.{length-set_value}
-use Rattle.pc_base.specs.declared.refusal.LimitWord.{LimitWord}
-use Rattle.pc_base.specs.declared.refusal.LimitWord.TheVariants as limit
-use Rattle.pc_message.specs.Message.{weight_of}
+use Rattle.std.proofs.Common.{◌≡◌, ℕ, suc, ◌+◌, ◌≤◌, ◌==◌, Bool, true, false, cond, not, ◌&&◌, ◌||◌, List, [], ◌∷◌, ◌++◌, length, filter, Option, None, Some, is_some, unwrap_or, option_and_then, refl, sym, ◌∙◌, ap, subst, arith, le_refl, add-zero, true≢false}
+use Rattle.std.specs.List.{list_all, filter_map, cons_option}
+use Rattle.std.specs.Map.{lookup, keys_of}
+use Rattle.std.proofs.lemmas.Bool.{and_parts, and_from, or_parts, false_from_ne_true}
 use Rattle.pc_history.specs.declared.kept.Kept.{Kept}
 use Rattle.pc_history.specs.declared.entry.Entry.{Entry}
-use Rattle.pc_history.specs.declared.entry.Entry.TheVariants.{MakeMailbox, DropMailbox, Flag, Expunge, Copy, MakeClient, DropClient, ResetClient, ResetMailbox, Forget, Pull, Password, Subscribe, Unsubscribe, Mark}
-use Rattle.pc_history.specs.declared.limits.TheConstants.{MOST_CLIENTS, MOST_MAILBOXES, MOST_SUBSCRIPTIONS, MOST_UIDS, MOST_MESSAGES, MOST_WEIGHT}
-use Rattle.pc_history.specs.Table.{same, is_among, other_names, others, numbers, total}
+use Rattle.pc_history.specs.declared.entry.Entry.TheVariants.{MakeMailbox, DropMailbox, Flag, Expunge}
+use Rattle.pc_history.specs.Table.{same, is_among, other_names, numbers, total}
 use Rattle.pc_history.specs.Record.{MailboxRecord, AccountRecord, mailbox_of, new_mailbox, list_of, kept_at}
 use Rattle.pc_history.specs.Effect.{left_by, gives, flagged}
 use Rattle.pc_history.specs.Flags.{flag_of}
 use Rattle.pc_history.specs.Known.{Known, said_by, kept_after, after_entry}
-use Rattle.pc_history.specs.History.{History, start, ◌▸◌, known, next}
-use Rattle.pc_history.specs.Allowed.{is_allowed, messages}
-use Rattle.pc_history.specs.Limits.{is_passed, limits_of, limit_passed, IsWithin, limits_of_bases}
+use Rattle.pc_history.specs.History.{History, known, next}
+use Rattle.pc_history.specs.Allowed.{messages}
 use Rattle.pc_history.specs.Step.{record_of}
-use Rattle.pc_history.specs.Legal.{IsWellFormed, IsCanonical, IsLegal}
+use Rattle.pc_history.specs.Legal.{IsWellFormed, IsLegal}
 use Rattle.pc_history.proofs.Tables.{same-true, is_among-keys, lookup-map_values, unwrap_or-constant}
 use Rattle.pc_history.proofs.Uids.{within-none}
 use Rattle.pc_history.proofs.Mailboxes.{lives-from_kept}
-use Rattle.pc_history.proofs.Histories.{Stands, Stands-legal}
+use Rattle.pc_history.proofs.Histories.{Stands-legal}
 
 -- ---- lists of names
 
@@ -49,8 +42,9 @@ total-filter f p (x ∷ xs) = elim (p x) as (λ b. total f (cond b (x ∷ filter
 pub total-among : (f : List ℕ → ℕ) (name : List ℕ) (names : List (List ℕ)) → is_among name names ≡ true → total f (other_names name names) + f name ≤ total f names
 total-among f name [] h = absurd (true≢false (sym h))
 total-among f name (x ∷ xs) h = elim (same name x) as (λ b. same name x ≡ b → (b || is_among name xs) ≡ true → total f (cond (not b) (x ∷ other_names name xs) (other_names name xs)) + f name ≤ f x + total f xs) [
-    true ↦ λ e g. let here : f name ≡ f x = ap f (same-true name x e) in omega (arith, total-filter f (λ other. not (same name other)) xs, here)
-  | false ↦ λ e g. omega (arith, total-among f name xs g) ] refl h
+  | true ↦ λ e g. let here : f name ≡ f x = ap f (same-true name x e) in omega (arith, total-filter f (λ other. not (same name other)) xs, here)
+  | false ↦ λ e g. omega (arith, total-among f name xs g)
+] refl h
 
 pub list_all-append : {X : Type 0} (p : X → Bool) (xs ys : List X) → list_all p xs ≡ true → list_all p ys ≡ true → list_all p (xs ++ ys) ≡ true
 list_all-append p [] ys h g = g
@@ -73,8 +67,9 @@ list_all-among p name [] h g = absurd (true≢false (sym g))
 list_all-among p name (x ∷ xs) h g =
     let parts = and_parts (p x) (list_all p xs) h in
     elim (same name x) as (λ b. same name x ≡ b → (b || is_among name xs) ≡ true → p name ≡ true) [
-      true ↦ λ e f. ap p (same-true name x e) ∙ parts.0
-    | false ↦ λ e f. list_all-among p name xs parts.1 f ] refl g
+      | true ↦ λ e f. ap p (same-true name x e) ∙ parts.0
+      | false ↦ λ e f. list_all-among p name xs parts.1 f
+    ] refl g
 
 -- ---- what is known of names that aren't there
 

@@ -19,9 +19,9 @@ use Rattle.pc_history.specs.History.{History, start, ◌▸◌, ◌▸▸◌, kn
 use Rattle.pc_history.specs.Allowed.{is_client}
 use Rattle.pc_history.specs.Legal.{IsChange, IsUpdateList, IsLegal}
 use Rattle.pc_history.specs.UpdateList.{is_taken}
-use Rattle.pc_history.proofs.Tables.{same-sym, lookup-append, lookup-others}
+use Rattle.pc_history.proofs.Tables.{some-none, some-same, same-sym, lookup-append, lookup-others}
 use Rattle.pc_history.proofs.Boxes.{option_or-none}
-use Rattle.pc_history.proofs.Lists.{list-is, listed-stamp_at, some-same, none-some, Every-on, stamp_at-IsOn}
+use Rattle.pc_history.proofs.Lists.{list-is, listed-stamp_at, Every-on, stamp_at-IsOn}
 
 -- ---- messages
 
@@ -97,7 +97,7 @@ legal-front h [] legal = legal
 legal-front h (e ∷ es) legal = (legal-front (h ▸ e) es legal).0
 
 listed-of : (number highest : ℕ) (birth : Option ℕ) (list : List Listed) (uid stamp : ℕ) → MatchOption birth (list ≡ []) (λ born. (0 < born) × (born < number) × IsUpdateList number highest born list) → stamp_at uid list ≡ Some stamp → (stamp < number) × (is_some birth ≡ true)
-listed-of number highest None list uid stamp h e = absurd (none-some stamp (sym (ap (stamp_at uid) h) ∙ e))
+listed-of number highest None list uid stamp h e = absurd (some-none stamp (sym (sym (ap (stamp_at uid) h) ∙ e)))
 listed-of number highest (Some born) list uid stamp h e = ((Every-on (IsChange number highest born) (record { uid = uid; stamp = stamp }) list h.2.changes (stamp_at-IsOn uid stamp list e)).so_far, refl)
 
 -- a stamp is the number of an entry before, and of a client
@@ -106,7 +106,7 @@ listed-facts h legal client mailbox uid stamp e = listed-of (next h) ((known h).
 
 stamp-stays : (stamped gone : Bool) (number stamp : ℕ) (listed : Option ℕ) → stamp < number → cond stamped (Some number) (cond gone None listed) ≡ Some stamp → (stamped ≡ false) × (gone ≡ false) × (listed ≡ Some stamp)
 stamp-stays true gone number stamp listed early h = absurd (omega (arith, some-same number stamp h))
-stamp-stays false true number stamp listed early h = absurd (none-some stamp h)
+stamp-stays false true number stamp listed early h = absurd (some-none stamp (sym h))
 stamp-stays false false number stamp listed early h = (refl, refl, h)
 
 and-second : (a b : Bool) → (a && b) ≡ false → a ≡ true → b ≡ false

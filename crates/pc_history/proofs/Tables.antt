@@ -2,7 +2,8 @@
 use Rattle.std.proofs.Common.{◌≡◌, ℕ, Bool, true, false, cond, not, ◌&&◌, ◌||◌, List, [], ◌∷◌, ◌++◌, Option, None, Some, is_some, unwrap_or, option_map, refl, sym, ap, true≢false}
 use Rattle.std.specs.Cmp.Lexicographic.{bytes_decides}
 use Rattle.std.specs.Option.{option_or, option_map_or}
-use Rattle.std.specs.Map.{lookup, keys_of, set_value}
+use Rattle.std.specs.Map.{lookup, keys_of, set_value, remove_entry}
+use Rattle.std.specs.List.{AllByRecursion, IsDistinct}
 use Rattle.std.proofs.lemmas.Cmp.{nat_list_eq_equiv}
 use Rattle.pc_history.specs.Table.{same, is_among, other_names, others, map_values}
 
@@ -101,3 +102,30 @@ module _ {X : Type 0} where
   pub some-from_map_or : (test : X → Bool) (found : Option X) → option_map_or test found false ≡ true → is_some found ≡ true
   some-from_map_or test None h = absurd (true≢false (sym h))
   some-from_map_or test (Some x) h = refl
+
+  -- ---- what the maps of std and of `indexmap` leave
+
+  pub some-none : (x : X) → ◌≡◌ {A = Option X} (Some x) None → ⊥
+  some-none x e = cc
+
+  pub some-same : (x y : X) → ◌≡◌ {A = Option X} (Some x) (Some y) → x ≡ y
+  some-same x y e = cc
+
+  pub lookup-absent : (name : List ℕ) (table : List (List ℕ × X)) → AllByRecursion (λ (other : List ℕ). same name other ≡ false) (keys_of table) → lookup (same name) table ≡ None
+  lookup-absent name [] h = refl
+  lookup-absent name (entry ∷ table) h = rw h.0 (lookup-absent name table h.1)
+
+  pub others-absent : (name : List ℕ) (table : List (List ℕ × X)) → lookup (same name) table ≡ None → others name table ≡ table
+  others-absent name [] h = refl
+  others-absent name (entry ∷ table) h = elim (same name entry.0) as (λ b. ◌≡◌ {A = Option X} (cond b (Some entry.1) (lookup (same name) table)) None → cond (not b) (entry ∷ others name table) (others name table) ≡ entry ∷ table) [
+    | true ↦ λ g. absurd (some-none entry.1 g)
+    | false ↦ λ g. ap (λ rest. entry ∷ rest) (others-absent name table g)
+  ] h
+
+  pub remove_entry-others : (name : List ℕ) (table : List (List ℕ × X)) → IsDistinct same (keys_of table) → remove_entry (same name) table ≡ others name table
+  unfolding IsDistinct
+  remove_entry-others name [] h = refl
+  remove_entry-others name (entry ∷ table) h = elim (same name entry.0) as (λ b. same name entry.0 ≡ b → cond b table (entry ∷ remove_entry (same name) table) ≡ cond (not b) (entry ∷ others name table) (others name table)) [
+    | true ↦ λ e. sym (others-absent name table (lookup-absent name table (rw (same-true name entry.0 e) h.0)))
+    | false ↦ λ e. ap (λ rest. entry ∷ rest) (remove_entry-others name table h.1)
+  ] refl

@@ -181,10 +181,11 @@ kept_at-all low (suc count) [] r h = filter_map-none (λ uid. kept_at uid []) (n
 kept_at-all low (suc count) (kept ∷ messages) r h =
     let later : Every (λ (k : Kept). (suc low < k.uid) × (k.uid ≤ suc low + count)) messages = Every-zip (λ (k : Kept). kept.uid < k.uid) (λ (k : Kept). (low < k.uid) × (k.uid ≤ low + suc count)) (λ (k : Kept). (suc low < k.uid) × (k.uid ≤ suc low + count)) (λ k a b. (omega (arith, h.0.0), omega (arith, b.1))) messages r.0 h.1 in
     elim (cases_eq kept.uid (suc low)) [
-      inl e ↦
-        let rest = filter_map-agree (λ uid. kept_at uid (kept ∷ messages)) (λ uid. kept_at uid messages) (numbers (suc low) count) (Every-numbers (λ uid. kept_at uid (kept ∷ messages) ≡ kept_at uid messages) (suc low) count (λ uid a b. rw (ne_eqb kept.uid uid (λ same. absurd (omega arith))))) in
-        rw (eq-eqb kept.uid (suc low) e) (ap (λ list. kept ∷ list) (rest ∙ kept_at-all (suc low) count messages r.1 later))
-    | inr ne ↦
-        let above : suc low < kept.uid = omega (arith, h.0.0) in
-        let none = kept_at-below (suc low) (kept ∷ messages) (above, Every-weaker (λ (k : Kept). (suc low < k.uid) × (k.uid ≤ suc low + count)) (λ (k : Kept). suc low < k.uid) (λ k a. a.0) messages later) in
-        (λ i. cons_option (none i) (filter_map (λ uid. kept_at uid (kept ∷ messages)) (numbers (suc low) count))) ∙ kept_at-all (suc low) count (kept ∷ messages) r ((above, omega (arith, h.0.1)), later) ]
+      | inl e ↦
+          let rest = filter_map-agree (λ uid. kept_at uid (kept ∷ messages)) (λ uid. kept_at uid messages) (numbers (suc low) count) (Every-numbers (λ uid. kept_at uid (kept ∷ messages) ≡ kept_at uid messages) (suc low) count (λ uid a b. rw (ne_eqb kept.uid uid (λ same. absurd (omega arith))))) in
+          rw (eq-eqb kept.uid (suc low) e) (ap (λ list. kept ∷ list) (rest ∙ kept_at-all (suc low) count messages r.1 later))
+      | inr ne ↦
+          let above : suc low < kept.uid = omega (arith, h.0.0) in
+          let none = kept_at-below (suc low) (kept ∷ messages) (above, Every-weaker (λ (k : Kept). (suc low < k.uid) × (k.uid ≤ suc low + count)) (λ (k : Kept). suc low < k.uid) (λ k a. a.0) messages later) in
+          (λ i. cons_option (none i) (filter_map (λ uid. kept_at uid (kept ∷ messages)) (numbers (suc low) count))) ∙ kept_at-all (suc low) count (kept ∷ messages) r ((above, omega (arith, h.0.1)), later)
+    ]

@@ -1,11 +1,10 @@
 -- The numbers of an account stay within their limits.
-use Rattle.std.proofs.Common.{◌≡◌, ℕ, suc, ◌+◌, ◌<◌, ◌≤◌, Bool, true, false, cond, not, ◌&&◌, ◌||◌, ◌⊎◌, nat_lt, nat_le, List, [], ◌∷◌, ◌++◌, length, map, filter, find, Option, None, Some, is_some, refl, sym, ◌∙◌, ap, subst, inl, inr, arith, le_refl, le_trans, add-zero, true≢false, ltb-false, le-ltb, leb-true, le-leb, length-append}
+use Rattle.std.proofs.Common.{◌≡◌, ℕ, ◌+◌, ◌≤◌, Bool, true, false, cond, not, ◌&&◌, ◌||◌, ◌⊎◌, nat_lt, nat_le, List, [], ◌∷◌, ◌++◌, length, filter, find, Option, None, Some, refl, sym, ◌∙◌, ap, subst, inl, inr, arith, le_trans, add-zero, ltb-false, le-ltb, leb-true, le-leb, length-append}
 use Rattle.std.specs.List.{AllByRecursion as Every, list_all}
 use Rattle.std.specs.Option.{option_map_or}
 use Rattle.std.proofs.lemmas.Bool.{and_parts, and_from, not-false, cases_Bool, and_right}
 use Rattle.std.proofs.lemmas.List.Elements.{filter-append}
 use Rattle.std.proofs.lemmas.Map.{length-set_value}
-use Rattle.pc_base.specs.declared.refusal.LimitWord.{LimitWord}
 use Rattle.pc_base.specs.declared.refusal.LimitWord.TheVariants as limit
 use Rattle.pc_message.specs.Message.{weight_of}
 use Rattle.pc_history.specs.declared.kept.Kept.{Kept}
@@ -18,9 +17,10 @@ use Rattle.pc_history.specs.Effect.{gives, clients_after, live_after, dropped_af
 use Rattle.pc_history.specs.Known.{Known, touches, stamps, stays, is_client_after, changes_after, after_entry}
 use Rattle.pc_history.specs.History.{History, start, ◌▸◌, known, next, base_of}
 use Rattle.pc_history.specs.Allowed.{is_allowed, messages}
-use Rattle.pc_history.specs.Limits.{is_passed, limits_of, limit_passed, IsWithin, limits_of_bases, mailbox_names, listed_count}
-use Rattle.pc_history.specs.Step.{record_of, stamped}
+use Rattle.pc_history.specs.Limits.{is_passed, limits_of, limit_passed, IsWithin, limits_of_bases, listed_count}
+use Rattle.pc_history.specs.Step.{record_of}
 use Rattle.pc_history.specs.Legal.{IsCanonical, IsLegal}
+use Rattle.pc_history.proofs.Tables.{some-none, some-same}
 use Rattle.pc_history.proofs.Uids.{filter-agree, filter-false, Every-from, within-none}
 use Rattle.pc_history.proofs.Histories.{Stands-legal}
 use Rattle.pc_history.proofs.Numbers.{KnowsNames, KnowsNames-legal, length-filter-le, length-ones, length-less, messages-less, no-messages, total-append, total-le, total-filter, total-among, list_all-append, list_all-split, list_all-filter, list_all-weaker, list_all-among}
@@ -28,9 +28,6 @@ use Rattle.pc_history.proofs.Numbers.{KnowsNames, KnowsNames-legal, length-filte
 none-found : {X : Type 0} (p : X → Bool) (xs : List X) → find p xs ≡ None → Every (λ x. p x ≡ false) xs
 none-found p [] h = tt
 none-found {X} p (x ∷ xs) h = elim (p x) as (λ b. ◌≡◌ {A = Option X} (cond b (Some x) (find p xs)) None → (b ≡ false) × Every (λ y. p y ≡ false) xs) [ true ↦ λ g. absurd (some-none x g) | false ↦ λ g. (refl, none-found p xs g) ] h
-  where
-    some-none : (y : X) → ◌≡◌ {A = Option X} (Some y) None → ⊥
-    some-none y g = cc
 
 -- a number that isn't past a limit, and one that is no greater
 not-more : (most count fewer : ℕ) → fewer ≤ count → nat_lt most count ≡ false → nat_lt most fewer ≡ false
@@ -63,7 +60,7 @@ module _ (k : Known) (knows : KnowsNames k) where
   mailboxes-within (DropMailbox name) allowed passed h =
       let among = total-among (λ _. 1) name k.live (and_parts _ _ allowed).0 in
       not-more MOST_MAILBOXES (length (k.live ++ k.dropped)) (length (other_names name k.live ++ (other_names name k.dropped ++ name ∷ [])))
-        (omega (arith, among, length-ones k.live, length-ones (other_names name k.live), length-filter-le (λ other. not (same name other)) k.dropped, length-append (other_names name k.live) (other_names name k.dropped ++ name ∷ []), length-append (other_names name k.dropped) (name ∷ []), length-append k.live k.dropped)) h
+      (omega (arith, among, length-ones k.live, length-ones (other_names name k.live), length-filter-le (λ other. not (same name other)) k.dropped, length-append (other_names name k.live) (other_names name k.dropped ++ name ∷ []), length-append (other_names name k.dropped) (name ∷ []), length-append k.live k.dropped)) h
   mailboxes-within (MakeClient name) allowed passed h = h
   mailboxes-within _ allowed passed h = h
 
@@ -75,8 +72,10 @@ module _ (k : Known) (knows : KnowsNames k) where
     where
       parts : (list_all p k.live ≡ true) × (list_all p k.dropped ≡ true)
       parts = list_all-split p k.live k.dropped h
+
       here : (name : List ℕ) → p name ≡ true
       here name = elim (cases_Bool (is_among name (k.live ++ k.dropped))) [ inl among ↦ list_all-among p name (k.live ++ k.dropped) h among | inr other ↦ unknown name other ]
+
       by_entry : (e' : Entry) → list_all p (live_after e' k.live ++ dropped_after e' k.dropped) ≡ true
       by_entry (MakeMailbox name) = list_all-append p (other_names name k.live ++ name ∷ []) (other_names name k.dropped) (list_all-append p (other_names name k.live) (name ∷ []) (list_all-filter p (λ other. not (same name other)) k.live parts.0) (and_from (p name) true (here name) refl)) (list_all-filter p (λ other. not (same name other)) k.dropped parts.1)
       by_entry (DropMailbox name) = list_all-append p (other_names name k.live) (other_names name k.dropped ++ name ∷ []) (list_all-filter p (λ other. not (same name other)) k.live parts.0) (list_all-append p (other_names name k.dropped) (name ∷ []) (list_all-filter p (λ other. not (same name other)) k.dropped parts.1) (and_from (p name) true (here name) refl))
@@ -96,8 +95,10 @@ module _ (k : Known) (knows : KnowsNames k) where
     where
       all : list_all q k.live ≡ true
       all = list_all-weaker p q k.live weaker h
+
       here : (name : List ℕ) → q name ≡ true
       here name = elim (cases_Bool (is_among name k.live)) [ inl among ↦ list_all-among q name k.live all among | inr other ↦ weaker name (dead name other) ]
+
       by_entry : (e' : Entry) → list_all q (live_after e' k.live) ≡ true
       by_entry (MakeMailbox name) = list_all-append q (other_names name k.live) (name ∷ []) (list_all-filter q (λ other. not (same name other)) k.live all) (and_from (q name) true (here name) refl)
       by_entry (DropMailbox name) = list_all-filter q (λ other. not (same name other)) k.live all
@@ -114,10 +115,12 @@ module _ (k : Known) (knows : KnowsNames k) where
     where
       all : total g k.live ≤ total f k.live
       all = total-le f g k.live less
+
       by_entry : (e' : Entry) → total g (live_after e' k.live) ≤ total f k.live
       by_entry (MakeMailbox name) = elim (cases_Bool (is_among name k.live)) [
-          inl among ↦ omega (arith, all, total-append g (other_names name k.live) (name ∷ []), total-among g name k.live among)
-        | inr other ↦ omega (arith, all, total-append g (other_names name k.live) (name ∷ []), total-filter g (λ x. not (same name x)) k.live, less name, dead name other) ]
+        | inl among ↦ omega (arith, all, total-append g (other_names name k.live) (name ∷ []), total-among g name k.live among)
+        | inr other ↦ omega (arith, all, total-append g (other_names name k.live) (name ∷ []), total-filter g (λ x. not (same name x)) k.live, less name, dead name other)
+      ]
       by_entry (DropMailbox name) = omega (arith, all, total-filter g (λ x. not (same name x)) k.live)
       by_entry _ = all
 
@@ -141,8 +144,9 @@ module _ (k : Known) (knows : KnowsNames k) where
       let names = mailboxes-within e allowed passed h.1.0 in
       let subscriptions = subscriptions-within e passed h.1.1.1.1.1.0 in
       elim (gives-or-held e passed) [
-        inl quiet ↦ (clients, (names, (uids-quiet e quiet h.1.1.0, (messages-quiet e quiet h.1.1.1.0, (bytes-quiet e quiet h.1.1.1.1.0, (subscriptions, tt))))))
-      | inr held ↦ (clients, (names, (held.0, (held.1, (held.2, (subscriptions, tt)))))) ]
+        | inl quiet ↦ (clients, (names, (uids-quiet e quiet h.1.1.0, (messages-quiet e quiet h.1.1.1.0, (bytes-quiet e quiet h.1.1.1.1.0, (subscriptions, tt))))))
+        | inr held ↦ (clients, (names, (held.0, (held.1, (held.2, (subscriptions, tt))))))
+      ]
 
   -- ---- changes
 
@@ -165,8 +169,9 @@ module _ (k : Known) (knows : KnowsNames k) where
       let second = total-append g (other_names name k.live) (name ∷ []) in
       let both = total-append g (other_names name k.live) (other_names name k.dropped) in
       elim (cases_Bool (is_among name (k.live ++ k.dropped))) [
-        inl among ↦ omega (arith, all, split, first, second, both, total-among g name (k.live ++ k.dropped) among)
-      | inr other ↦ omega (arith, all, split, first, second, both, total-filter g (λ x. not (same name x)) (k.live ++ k.dropped), less name, unknown name other) ]
+        | inl among ↦ omega (arith, all, split, first, second, both, total-among g name (k.live ++ k.dropped) among)
+        | inr other ↦ omega (arith, all, split, first, second, both, total-filter g (λ x. not (same name x)) (k.live ++ k.dropped), less name, unknown name other)
+      ]
 
   -- how many changes a mailbox has on all lists
   listed_in : Known → List ℕ → ℕ
@@ -222,14 +227,9 @@ IsCanonical-legal h legal = let stands = Stands-legal h legal in record { well_f
 
 -- ---- what is told
 
-one-same : {X : Type 0} (x y : X) → ◌≡◌ {A = Option X} (Some x) (Some y) → x ≡ y
-one-same x y e = cc
-
 pub found-passes : {X : Type 0} (p : X → Bool) (xs : List X) (found : X) → find p xs ≡ Some found → p found ≡ true
-found-passes p [] found h = absurd (none-one found h)
-  where
-    none-one : {Y : Type 0} (y : Y) → ◌≡◌ {A = Option Y} None (Some y) → ⊥
-    none-one y g = cc
+found-passes p [] found h = absurd (some-none found (sym h))
 found-passes {X} p (x ∷ xs) found h = elim (p x) as (λ b. p x ≡ b → ◌≡◌ {A = Option X} (cond b (Some x) (find p xs)) (Some found) → p found ≡ true) [
-    true ↦ λ e g. ap p (sym (one-same x found g)) ∙ e
-  | false ↦ λ e g. found-passes p xs found g ] refl h
+  | true ↦ λ e g. ap p (sym (some-same x found g)) ∙ e
+  | false ↦ λ e g. found-passes p xs found g
+] refl h

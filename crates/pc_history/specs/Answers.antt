@@ -1,5 +1,5 @@
 -- What a history answers of messages and changes.
-use Rattle.std.specs.Prelude.{ℕ, ◌&&◌, nat_le, List, map, take, filter, if◌then◌else◌}
+use Rattle.std.specs.Prelude.{ℕ, List, map, take}
 use Rattle.std.specs.Option.{option_map_or}
 use Rattle.pc_message.specs.declared.descriptor.Descriptor.{Descriptor}
 use Rattle.pc_message.specs.declared.descriptor.Change.{Change}

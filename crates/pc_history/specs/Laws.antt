@@ -1,17 +1,19 @@
 -- What holds of every legal history.
-use Rattle.std.specs.Prelude.{◌≡◌, ℕ, ◌<◌, ◌==◌, Bool, true, false, ◌↔◌, ◌⊎◌, List, [], MatchOption, is_some, Some, if◌then◌else◌}
+use Rattle.std.specs.Prelude.{◌≡◌, ℕ, suc, ◌+◌, ◌<◌, ◌==◌, Bool, true, false, ◌↔◌, ◌⊎◌, List, [], MatchOption, length, is_some, None, Some, if◌then◌else◌}
 use Rattle.pc_base.specs.declared.refusal.LimitWord.{LimitWord}
 use Rattle.pc_base.specs.declared.refusal.LimitWord.TheVariants.{Changes}
 use Rattle.pc_history.specs.declared.entry.Entry.{Entry}
 use Rattle.pc_history.specs.Record.{AccountRecord, mailbox_of}
+use Rattle.pc_message.specs.Message.{weight_of}
+use Rattle.pc_history.specs.Table.{total}
 use Rattle.pc_history.specs.Flags.{flag_of, flags_with}
 use Rattle.pc_history.specs.Effect.{begins}
-use Rattle.pc_history.specs.Known.{said_by, touches}
+use Rattle.pc_history.specs.Known.{said_by, after_entry, touches}
 use Rattle.pc_history.specs.History.{History, start, ◌▸◌, ◌▸▸◌, known, next, birth, base_of}
 use Rattle.pc_history.specs.Allowed.{is_allowed, is_client, messages}
 use Rattle.pc_history.specs.Answers.{descriptors, changed}
-use Rattle.pc_history.specs.Limits.{is_passed, limit_passed, IsWithin, limits_of_bases}
-use Rattle.pc_history.specs.Step.{record_of}
+use Rattle.pc_history.specs.Limits.{is_passed, limit_passed, weight, listed_count, IsWithin, limits_of_bases}
+use Rattle.pc_history.specs.Step.{after, record_of}
 use Rattle.pc_history.specs.Legal.{IsUpdateList, IsWellFormed, IsCanonical, IsLegal}
 use Rattle.pc_history.specs.UpdateList.{IsListFor, is_taken}
 
@@ -64,9 +66,18 @@ LimitsHold = (h : History) → IsLegal h → IsWithin (known h) limits_of_bases 
 abbrev pub LimitIsPassed : Type 0
 LimitIsPassed = (h : History) (e : Entry) (limit : LimitWord) → limit_passed (known h) e ≡ Some limit → is_passed (known (h ▸ e)) limit ≡ true
 
--- the messages of a mailbox are those that the record holds
-abbrev pub RecordHoldsMessages : Type 0
-RecordHoldsMessages = (r : AccountRecord) (number : ℕ) (mailbox : List ℕ) → IsWellFormed r number → messages (said_by r number) mailbox ≡ (mailbox_of r mailbox).messages
+-- what a well-formed record holds is what is counted: messages, their weight, and changes on lists
+pub record IsCountedIn (r : AccountRecord) (number : ℕ) : Type 0 where
+  pub messages : (mailbox : List ℕ) → messages (said_by r number) mailbox ≡ (mailbox_of r mailbox).messages
+  pub weight : weight (said_by r number) ≡ total (λ entry. total (λ kept. weight_of kept.message) entry.1.messages) r.live
+  pub changes : listed_count (said_by r number) ≡ total (λ entry. total (λ list. length list.1) entry.1.lists) r.live + total (λ entry. total (λ list. length list.1) entry.1.lists) r.dropped
+
+abbrev pub RecordIsCounted : Type 0
+RecordIsCounted = (r : AccountRecord) (number : ℕ) → IsWellFormed r number → IsCountedIn r number
+
+-- an allowed entry that passes no limit makes of a canonical record one that says what is known after the entry
+abbrev pub StepIsOneEntryMore : Type 0
+StepIsOneEntryMore = (r : AccountRecord) (number : ℕ) (e : Entry) → IsCanonical r number → is_allowed (said_by r number) e ≡ true → limit_passed (said_by r number) e ≡ None → IsCanonical (after r number e) (suc number) × (said_by (after r number e) (suc number) ≡ after_entry (said_by r number) e)
 
 -- ---- one entry more
 

@@ -2,14 +2,12 @@
 use Rattle.std.specs.Prelude.{◌≡◌, ℕ, ◌<◌, ◌≤◌, ◌==◌, ◌⊎◌, true, false, List, [], ◌∷◌, ◌++◌, None, ⊤}
 use Rattle.std.specs.List.{AllByRecursion}
 use Rattle.std.specs.Map.{keys_of}
-use Rattle.pc_base.specs.declared.refusal.LimitWord.{LimitWord}
-use Rattle.pc_base.specs.declared.refusal.LimitWord.TheVariants as limit
 use Rattle.pc_history.specs.declared.kept.Kept.{Kept}
 use Rattle.pc_history.specs.declared.kept.Listed.{Listed}
 use Rattle.pc_history.specs.declared.limits.TheConstants.{LAST_MAIL}
 use Rattle.pc_history.specs.Table.{same}
 use Rattle.pc_history.specs.Record.{MailboxRecord, AccountRecord}
-use Rattle.pc_history.specs.Known.{Known, said_by}
+use Rattle.pc_history.specs.Known.{said_by}
 use Rattle.pc_history.specs.History.{History, start, ◌▸◌, known}
 use Rattle.pc_history.specs.Allowed.{is_allowed}
 use Rattle.pc_history.specs.Limits.{limit_passed, IsWithin, limits_of_bases}

@@ -1,6 +1,6 @@
 //! What holds of every legal history. Each law is the contract of a function that does nothing.
 
-ghost use Rattle.pc_history.specs.Laws.{RecordAnswersAsHistory, RecordInPlaceOfHistory, RecordIsCanonical, ChangesAreTheUpdateList, StampsAreNumbersOfEntries, LimitsHold, LimitIsPassed, RecordHoldsMessages, UntouchedStays, UnlistedWasTaken, ClientStays, SameStampSameMessage, OneFlagIsSet};
+ghost use Rattle.pc_history.specs.Laws.{RecordAnswersAsHistory, RecordInPlaceOfHistory, RecordIsCanonical, ChangesAreTheUpdateList, StampsAreNumbersOfEntries, LimitsHold, LimitIsPassed, RecordIsCounted, StepIsOneEntryMore, UntouchedStays, UnlistedWasTaken, ClientStays, SameStampSameMessage, OneFlagIsSet};
 
 /// The record of a history answers every question as the history does.
 pub fn record_answers_as_history()
@@ -30,20 +30,22 @@ pub fn stamps_are_numbers_of_entries()
 /// No limit is passed at any place of a legal history. That of changes may be where its base passes it.
 pub fn limits_hold()
     ensures { LimitsHold }
-{
-}
+{}
 
 /// A limit is told only where it would be passed.
 pub fn limit_is_passed()
     ensures { LimitIsPassed }
-{
-}
+{}
 
-/// A record holds the messages of a mailbox as its history has them.
-pub fn record_holds_messages()
-    ensures { RecordHoldsMessages }
-{
-}
+/// Messages, weight and changes are counted over the record.
+pub fn record_is_counted()
+    ensures { RecordIsCounted }
+{}
+
+/// The step of a record is one entry more.
+pub fn step_is_one_entry_more()
+    ensures { StepIsOneEntryMore }
+{}
 
 /// An entry that doesn't touch a message for a client leaves it as it was.
 pub fn untouched_stays()

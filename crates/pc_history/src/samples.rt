@@ -55,11 +55,9 @@ pub fn first_limit()
 /// The samples are legal histories.
 pub fn samples_are_legal()
     ensures { SamplesAreLegal }
-{
-}
+{}
 
 /// What the record keeps of a mailbox that was made again.
 pub fn record_of_made_again()
     ensures { RecordOfMadeAgain }
-{
-}
+{}

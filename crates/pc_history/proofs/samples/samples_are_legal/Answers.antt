@@ -2,7 +2,7 @@
 use Rattle.std.proofs.Common.{refl, lit≤}
 use Rattle.pc_history.specs.History.{new_account}
 use Rattle.pc_history.specs.Legal.{IsLegal}
-use Rattle.pc_history.specs.Samples.{enrolled, five_pulled, flag_between, touched_again, one_taken, expunged, work_pulled, made_again, copied, client_again}
+use Rattle.pc_history.specs.Samples.{enrolled, five_pulled, touched_again, one_taken, work_pulled}
 use Rattle.pc_history.proofs.samples.samples_are_legal.Goals as goal
 
 new-legal : IsLegal new_account
@@ -24,10 +24,11 @@ work_pulled-legal : IsLegal work_pulled
 work_pulled-legal = (((enrolled-legal, refl, refl), refl, refl), refl, refl)
 
 pub returns : goal.returns
-returns c =
-    (new-legal,
-     touched_again-legal,
-     (((one_taken-legal, refl, refl), refl, refl), refl, refl),
-     (((work_pulled-legal, refl, refl), refl, refl), refl, refl),
-     ((((work_pulled-legal, refl, refl), refl, refl), refl, refl), refl, refl),
-     ((one_taken-legal, refl, refl), refl, refl))
+returns c = (
+  new-legal,
+  touched_again-legal,
+  (((one_taken-legal, refl, refl), refl, refl), refl, refl),
+  (((work_pulled-legal, refl, refl), refl, refl), refl, refl),
+  ((((work_pulled-legal, refl, refl), refl, refl), refl, refl), refl, refl),
+  ((one_taken-legal, refl, refl), refl, refl),
+)
