@@ -1,5 +1,5 @@
 -- What one entry more can change.
-use Rattle.std.proofs.Common.{◌≡◌, ℕ, ◌^◌, ◌<◌, ◌==◌, Bool, true, false, cond, not, ◌&&◌, ◌||◌, ◌⊎◌, min, max, List, [], ◌∷◌, Option, None, Some, is_some, option_and_then, MatchOption, refl, sym, ◌∙◌, ap, inl, inr, arith, eq-eqb, ne_eqb, true≢false, w16, bit_and, bit_or}
+use Rattle.std.proofs.Common.{◌≡◌, ℕ, ◌^◌, ◌<◌, ◌≤◌, ◌==◌, Bool, true, false, cond, not, ◌&&◌, ◌||◌, ◌⊎◌, min, max, List, [], ◌∷◌, Option, None, Some, is_some, option_and_then, MatchOption, refl, sym, ◌∙◌, ap, subst, inl, inr, arith, eq-eqb, ne_eqb, true≢false, w16, bit_and, bit_or}
 use Rattle.std.specs.Map.{lookup}
 use Rattle.std.specs.Int.{bit_at, bit_not}
 use Rattle.std.specs.Option.{option_map_or}
@@ -12,13 +12,19 @@ use Rattle.pc_history.specs.declared.entry.Entry.{Entry}
 use Rattle.pc_history.specs.declared.entry.Entry.TheVariants.{MakeMailbox, DropMailbox, Flag, Expunge, MakeClient, DropClient}
 use Rattle.pc_history.specs.Flags.{flag_of, flags_with}
 use Rattle.pc_history.specs.Table.{same, others}
-use Rattle.pc_history.specs.Record.{mailbox_of, list_of, stamp_at}
+use Rattle.pc_history.specs.Record.{mailbox_of, list_of, kept_at, stamp_at}
 use Rattle.pc_history.specs.Effect.{begins, forgets, concerns, left_by, clients_after}
 use Rattle.pc_history.specs.Known.{Known, stamps, touches, kept_after, is_given, is_client_after}
 use Rattle.pc_history.specs.History.{History, start, ◌▸◌, ◌▸▸◌, known, next, birth}
 use Rattle.pc_history.specs.Allowed.{is_client}
 use Rattle.pc_history.specs.Legal.{IsChange, IsUpdateList, IsLegal}
+use Rattle.pc_history.specs.Step.{record_of}
 use Rattle.pc_history.specs.UpdateList.{is_taken}
+use Rattle.pc_history.specs.Laws.{touched_since}
+use Rattle.std.specs.List.{AllByRecursion as Every}
+use Rattle.std.specs.Prelude.{⊤}
+use Rattle.pc_history.proofs.Mailboxes.{IsMailbox-mailbox_of}
+use Rattle.pc_history.proofs.Histories.{Stands-legal}
 use Rattle.pc_history.proofs.Tables.{some-none, some-same, same-sym, lookup-append, lookup-others}
 use Rattle.pc_history.proofs.Boxes.{option_or-none}
 use Rattle.pc_history.proofs.Lists.{list-is, listed-stamp_at, Every-on, stamp_at-IsOn}
@@ -126,6 +132,41 @@ same-stamp h (e ∷ es) legal client mailbox uid stamp early still =
 
 pub same-stamp-same-message : (h : History) → IsLegal h → (es : List Entry) → IsLegal (h ▸▸ es) → (client mailbox : List ℕ) (uid stamp : ℕ) → (known h).listed client mailbox uid ≡ Some stamp → (known (h ▸▸ es)).listed client mailbox uid ≡ Some stamp → (known (h ▸▸ es)).kept mailbox uid ≡ (known h).kept mailbox uid
 same-stamp-same-message h legal es later client mailbox uid stamp shown still = (same-stamp h es later client mailbox uid stamp (listed-facts h legal client mailbox uid stamp shown).0 still).0
+
+-- ---- what is touched while nothing is taken
+
+or-false : (b : Bool) → b ≡ (b || false)
+or-false true = refl
+or-false false = refl
+
+since-step : (stamped : Bool) (number : ℕ) (listed : Option ℕ) (rest : Bool) → (is_some (cond stamped (Some number) listed) || rest) ≡ (is_some listed || (stamped || rest))
+since-step true number None rest = refl
+since-step true number (Some stamp) rest = refl
+since-step false number listed rest = refl
+
+pub listed-since : (h : History) (es : List Entry) (client mailbox : List ℕ) (uid : ℕ) → is_client (known h) client ≡ true → Every (λ (e : Entry). (begins e client ≡ false) × (forgets e client mailbox uid ≡ false)) es → is_some ((known (h ▸▸ es)).listed client mailbox uid) ≡ (is_some ((known h).listed client mailbox uid) || touched_since h es client mailbox uid)
+listed-since h [] client mailbox uid one quiet = or-false (is_some ((known h).listed client mailbox uid))
+listed-since h (e ∷ es) client mailbox uid one quiet =
+    let still : is_client_after (known h) e client ≡ true = ap is_some (client-stays e (next h) (known h).clients client quiet.0.0) ∙ one in
+    let behind = listed-since (h ▸ e) es client mailbox uid still quiet.1 in
+    let step : (known (h ▸ e)).listed client mailbox uid ≡ cond (touches (known h) e client mailbox uid) (Some (next h)) ((known h).listed client mailbox uid) = rw (still, quiet.0.0, quiet.0.1) in
+    behind ∙ ap (λ listed. is_some listed || touched_since (h ▸ e) es client mailbox uid) step ∙ since-step (touches (known h) e client mailbox uid) (next h) ((known h).listed client mailbox uid) (touched_since (h ▸ e) es client mailbox uid)
+
+-- ---- the uid of a message
+
+own-uid : (highest uid : ℕ) (messages : List Kept) → Every (λ (kept : Kept). (0 < kept.uid) × (kept.uid ≤ highest)) messages → MatchOption (kept_at uid messages) ⊤ (λ kept. (kept.uid ≡ uid) × (0 < uid) × (uid ≤ highest))
+own-uid highest uid [] h = tt
+own-uid highest uid (kept ∷ messages) h =
+    elim (cases_eq kept.uid uid) [
+      | inl here ↦ rw (eq-eqb kept.uid uid here) (here, omega (arith, h.0.0), omega (arith, h.0.1))
+      | inr other ↦ rw (ne_eqb kept.uid uid other) (own-uid highest uid messages h.1)
+    ]
+
+pub kept-own-uid : (h : History) → IsLegal h → (mailbox : List ℕ) (uid : ℕ) → MatchOption ((known h).kept mailbox uid) ⊤ (λ kept. (kept.uid ≡ uid) × (0 < uid) × (uid ≤ (known h).highest mailbox))
+kept-own-uid h legal mailbox uid =
+    let stands = Stands-legal h legal in
+    let box = mailbox_of (record_of h) mailbox in
+    subst (λ (k : Known). MatchOption (k.kept mailbox uid) ⊤ (λ kept. (kept.uid ≡ uid) × (0 < uid) × (uid ≤ k.highest mailbox))) (sym stands.alike) (own-uid box.highest uid box.messages (IsMailbox-mailbox_of (record_of h) (next h) mailbox stands.formed).messages.given)
 
 -- ---- flags
 

@@ -1,5 +1,6 @@
 -- What holds of every legal history.
-use Rattle.std.specs.Prelude.{◌≡◌, ℕ, suc, ◌+◌, ◌<◌, ◌==◌, Bool, true, false, ◌↔◌, ◌⊎◌, List, [], MatchOption, length, is_some, None, Some, if◌then◌else◌}
+use Rattle.std.specs.Prelude.{◌≡◌, ℕ, suc, ◌+◌, ◌<◌, ◌==◌, Bool, true, false, ◌||◌, ◌↔◌, ◌⊎◌, ◌≤◌, ⊤, List, [], ◌∷◌, MatchOption, length, is_some, None, Some, if◌then◌else◌}
+use Rattle.std.specs.List.{AllByRecursion}
 use Rattle.pc_base.specs.declared.refusal.LimitWord.{LimitWord}
 use Rattle.pc_base.specs.declared.refusal.LimitWord.TheVariants.{Changes}
 use Rattle.pc_history.specs.declared.entry.Entry.{Entry}
@@ -7,7 +8,7 @@ use Rattle.pc_history.specs.Record.{AccountRecord, mailbox_of}
 use Rattle.pc_message.specs.Message.{weight_of}
 use Rattle.pc_history.specs.Table.{total}
 use Rattle.pc_history.specs.Flags.{flag_of, flags_with}
-use Rattle.pc_history.specs.Effect.{begins}
+use Rattle.pc_history.specs.Effect.{begins, forgets}
 use Rattle.pc_history.specs.Known.{said_by, after_entry, touches}
 use Rattle.pc_history.specs.History.{History, start, ◌▸◌, ◌▸▸◌, known, next, birth, base_of}
 use Rattle.pc_history.specs.Allowed.{is_allowed, is_client, messages}
@@ -93,6 +94,19 @@ ClientStays = (h : History) (e : Entry) (client : List ℕ) → begins e client 
 -- where a stamp is still the one that was shown, so is the message
 abbrev pub SameStampSameMessage : Type 0
 SameStampSameMessage = (h : History) → IsLegal h → (entries : List Entry) → IsLegal (h ▸▸ entries) → (client mailbox : List ℕ) (uid stamp : ℕ) → (known h).listed client mailbox uid ≡ Some stamp → (known (h ▸▸ entries)).listed client mailbox uid ≡ Some stamp → (known (h ▸▸ entries)).kept mailbox uid ≡ (known h).kept mailbox uid
+
+-- some of these entries, behind the history, touches the uid for the client
+abbrev pub touched_since : History → List Entry → List ℕ → List ℕ → ℕ → Bool
+touched_since h [] client mailbox uid = false
+touched_since h (e ∷ entries) client mailbox uid = touches (known h) e client mailbox uid || touched_since (h ▸ e) entries client mailbox uid
+
+-- while a client takes nothing and is neither made nor dropped, what is listed is what was and what is touched since
+abbrev pub ListedIsTouchedSince : Type 0
+ListedIsTouchedSince = (h : History) (entries : List Entry) (client mailbox : List ℕ) (uid : ℕ) → is_client (known h) client ≡ true → AllByRecursion (λ e. (begins e client ≡ false) × (forgets e client mailbox uid ≡ false)) entries → is_some ((known (h ▸▸ entries)).listed client mailbox uid) ≡ (is_some ((known h).listed client mailbox uid) || touched_since h entries client mailbox uid)
+
+-- a message that lives has its own uid, which was given
+abbrev pub KeptUnderItsUid : Type 0
+KeptUnderItsUid = (h : History) → IsLegal h → (mailbox : List ℕ) (uid : ℕ) → MatchOption ((known h).kept mailbox uid) ⊤ (λ kept. (kept.uid ≡ uid) × (0 < uid) × (uid ≤ (known h).highest mailbox))
 
 -- one flag is set, and the others stay
 abbrev pub OneFlagIsSet : Type 0

@@ -5,14 +5,17 @@ use Rattle.pc_history.specs.Table.{numbers}
 use Rattle.pc_base.specs.declared.refusal.LimitWord.TheVariants as limit
 use Rattle.pc_history.specs.declared.kept.Listed.{Listed}
 use Rattle.pc_history.specs.declared.entry.Entry.TheVariants.{MakeMailbox, DropMailbox, Flag, Expunge, Copy, MakeClient, DropClient, ResetClient, ResetMailbox, Forget, Pull, Password, Subscribe, Unsubscribe, Mark}
-use Rattle.pc_history.specs.Record.{AccountRecord, empty_record, mailbox_of, list_of}
+use Rattle.pc_history.specs.Record.{AccountRecord, empty_record, new_mailbox, mailbox_of, list_of}
 use Rattle.pc_history.specs.Effect.{arrived}
 use Rattle.pc_history.specs.Step.{record_of}
 use Rattle.pc_history.specs.Legal.{IsLegal}
 use Rattle.std.specs.Map.{keys_of}
 use Rattle.pc_history.specs.History.{History, ◌▸◌, new_account, known, birth, start}
 use Rattle.pc_history.specs.Allowed.{is_allowed, is_mailbox}
-use Rattle.pc_history.specs.Limits.{limit_passed, listed_count, weight}
+use Rattle.pc_message.specs.declared.descriptor.Change.TheVariants.{Present, Expunged}
+use Rattle.pc_message.specs.Descriptor.{descriptor_of}
+use Rattle.pc_history.specs.Answers.{changed, first_changes}
+use Rattle.pc_history.specs.Limits.{is_passed, limit_passed, listed_count, weight}
 
 abbrev pub box : List ℕ
 box = codes "inbox"
@@ -142,6 +145,32 @@ ClientAgain = (birth one_taken first_client ≡ Some 3)
     × (list_in (client_again ▸ ResetClient first_client) first_client box ≡ (1, 9) ∷ [])
     × (is_allowed (known client_again) (MakeClient first_client) ≡ false)
 
+-- letters of one pull, to two mailboxes in turn
+abbrev pub other_note : List (List ℕ)
+other_note = codes "two" ∷ []
+
+abbrev pub mixed_pull : History
+mixed_pull = work_pulled ▸ Pull 7 ((work, other_note) ∷ (box, note) ∷ (work, note) ∷ (box, other_note) ∷ [])
+
+abbrev pub LettersInOrder : Type 0
+LettersInOrder = ((known mixed_pull).kept work 4 ≡ Some (arrived 4 other_note))
+    × ((known mixed_pull).kept work 5 ≡ Some (arrived 5 note))
+    × ((known mixed_pull).kept box 1 ≡ Some (arrived 1 note))
+    × ((known mixed_pull).kept box 2 ≡ Some (arrived 2 other_note))
+    × ((known mixed_pull).kept box 3 ≡ None)
+    × ((known mixed_pull).kept box 0 ≡ None)
+    × ((known mixed_pull).pulled ≡ 7)
+    × (list_in mixed_pull second_client work ≡ (1, 5) ∷ (2, 5) ∷ (3, 5) ∷ (4, 6) ∷ (5, 6) ∷ [])
+    × (changed (known (mixed_pull ▸ DropMailbox work)) second_client work 2 ≡ Expunged 1 ∷ Expunged 2 ∷ [])
+    × (changed (known mixed_pull) second_client box 1 ≡ Present (descriptor_of note 1 0) ∷ [])
+    × (first_changes (known mixed_pull) second_client work 0 ≡ [])
+
+-- clients in order of making, a client made again last
+abbrev pub ClientsInOrder : Type 0
+ClientsInOrder = ((known five_pulled).clients ≡ (first_client, 3) ∷ (second_client, 4) ∷ [])
+    × ((known (five_pulled ▸ DropClient first_client ▸ MakeClient first_client)).clients ≡ (second_client, 4) ∷ (first_client, 7) ∷ [])
+    × (list_in (five_pulled ▸ DropClient first_client) second_client box ≡ (1, 5) ∷ (2, 5) ∷ (3, 5) ∷ (4, 5) ∷ (5, 5) ∷ [])
+
 -- a reset of one mailbox lists what lives there and nothing of another
 abbrev pub ResetOfOne : Type 0
 ResetOfOne = (list_in (copied ▸ Forget second_client box (1 ∷ []) ▸ ResetMailbox second_client work) second_client work ≡ (1, 11) ∷ (2, 11) ∷ (3, 11) ∷ [])
@@ -164,12 +193,19 @@ names count = map (λ letter. 110 ∷ letter ∷ []) (numbers 47 count)
 abbrev pub full_record : AccountRecord
 full_record = record empty_record { clients = map (λ name. (name, 1)) (names 16); subscriptions = map (λ name. (name, 0)) (names 64) }
 
+-- a record with one mailbox in which so many uids were given
+abbrev pub one_mailbox : ℕ → AccountRecord
+one_mailbox highest = record empty_record { live = (work, record { highest = highest; messages = arrived 1 note ∷ []; lists = [] }) ∷ [] }
+
 -- where several limits would be passed the first in their order is told, and an entry meets the limits that it can pass and no other
 abbrev pub FirstLimit : Type 0
 FirstLimit = (limit_passed (known (start full_record 9)) (MakeClient box) ≡ Some limit.Clients)
     × (limit_passed (known (start full_record 9)) (Subscribe box) ≡ Some limit.Subscriptions)
     × (limit_passed (known (start full_record 9)) (MakeMailbox box) ≡ None)
     × (limit_passed (known (start full_record 9)) (Password []) ≡ None)
+    × (limit_passed (known (start (record empty_record { live = map (λ name. (name, new_mailbox [])) (names 40); dropped = map (λ name. (name, new_mailbox [])) (names 24) }) 9)) (MakeMailbox box) ≡ Some limit.Mailboxes)
+    × (is_passed (known (start (one_mailbox 1000000000) 9 ▸ Copy work 1 work)) limit.Uids ≡ true)
+    × (is_passed (known (start (one_mailbox 999999999) 9 ▸ Copy work 1 work)) limit.Uids ≡ false)
     × (listed_count (known flag_between) ≡ 6)
     × (weight (known copied) ≡ 1044)
 

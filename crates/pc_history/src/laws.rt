@@ -1,6 +1,6 @@
 //! What holds of every legal history. Each law is the contract of a function that does nothing.
 
-ghost use Rattle.pc_history.specs.Laws.{RecordAnswersAsHistory, RecordInPlaceOfHistory, RecordIsCanonical, ChangesAreTheUpdateList, StampsAreNumbersOfEntries, LimitsHold, LimitIsPassed, RecordIsCounted, StepIsOneEntryMore, UntouchedStays, UnlistedWasTaken, ClientStays, SameStampSameMessage, OneFlagIsSet};
+ghost use Rattle.pc_history.specs.Laws.{RecordAnswersAsHistory, RecordInPlaceOfHistory, RecordIsCanonical, ChangesAreTheUpdateList, StampsAreNumbersOfEntries, LimitsHold, LimitIsPassed, RecordIsCounted, StepIsOneEntryMore, UntouchedStays, UnlistedWasTaken, ClientStays, SameStampSameMessage, ListedIsTouchedSince, KeptUnderItsUid, OneFlagIsSet};
 
 /// The record of a history answers every question as the history does.
 pub fn record_answers_as_history()
@@ -65,6 +65,16 @@ pub fn client_stays()
 /// A stamp that is still the one that was shown shows that the message is what it was.
 pub fn same_stamp_same_message()
     ensures { SameStampSameMessage }
+{}
+
+/// While a client takes nothing, its list tells exactly what was touched.
+pub fn listed_is_touched_since()
+    ensures { ListedIsTouchedSince }
+{}
+
+/// A message that lives is kept under its own uid.
+pub fn kept_under_its_uid()
+    ensures { KeptUnderItsUid }
 {}
 
 /// Setting a flag leaves the other flags as they were.

@@ -1,6 +1,6 @@
 //! Small histories, with what their answers must be. Each law is the contract of a function that does nothing.
 
-ghost use Rattle.pc_history.specs.Samples.{FlagBetween, NothingTwice, TouchedAgain, ExpungeIsSeen, MadeAgain, CopyIsNotDeleted, ClientAgain, ResetOfOne, SubscribedAgain, FirstLimit, SamplesAreLegal, RecordOfMadeAgain};
+ghost use Rattle.pc_history.specs.Samples.{FlagBetween, NothingTwice, TouchedAgain, ExpungeIsSeen, MadeAgain, CopyIsNotDeleted, ClientAgain, ResetOfOne, SubscribedAgain, FirstLimit, SamplesAreLegal, RecordOfMadeAgain, LettersInOrder, ClientsInOrder};
 
 /// A client is shown five changes, a flag is set, and the client takes what it was shown: the flagged one stays listed.
 pub fn a_flag_between()
@@ -60,4 +60,14 @@ pub fn samples_are_legal()
 /// What the record keeps of a mailbox that was made again.
 pub fn record_of_made_again()
     ensures { RecordOfMadeAgain }
+{}
+
+/// Letters of a pull get the next uids of their mailboxes in order.
+pub fn letters_in_order()
+    ensures { LettersInOrder }
+{}
+
+/// Clients stand in the order in which they were made.
+pub fn clients_in_order()
+    ensures { ClientsInOrder }
 {}
