@@ -1,0 +1,16 @@
+pub mod Counts
+pub mod Within
+pub mod Numbers
+pub mod Alike
+pub mod Steps
+pub mod Lists
+pub mod Histories
+pub mod FormedAfter
+pub mod Formed
+pub mod Agreement
+pub mod Boxes
+pub mod Needs
+pub mod Mailboxes
+pub mod Tables
+pub mod Uids
+pub mod Changes

@@ -1,0 +1,222 @@
+-- Small histories with what each answer must be.
+use Rattle.std.specs.Prelude.{◌≡◌, ℕ, true, false, List, [], ◌∷◌, map, codes, Option, Some, None, replicate}
+use Rattle.std.specs.Option.{option_map}
+use Rattle.pc_history.specs.Table.{numbers}
+use Rattle.pc_base.specs.declared.refusal.LimitWord.TheVariants as limit
+use Rattle.pc_history.specs.declared.kept.Listed.{Listed}
+use Rattle.pc_history.specs.declared.entry.Entry.TheVariants.{MakeMailbox, DropMailbox, Flag, Expunge, Copy, MakeClient, DropClient, ResetClient, ResetMailbox, Forget, Pull, Password, Subscribe, Unsubscribe, Mark}
+use Rattle.pc_history.specs.Record.{AccountRecord, empty_record, new_mailbox, mailbox_of, list_of}
+use Rattle.pc_history.specs.Effect.{arrived}
+use Rattle.pc_history.specs.Step.{record_of}
+use Rattle.pc_history.specs.Legal.{IsLegal}
+use Rattle.std.specs.Map.{keys_of}
+use Rattle.pc_history.specs.History.{History, ◌▸◌, new_account, known, birth, start}
+use Rattle.pc_history.specs.Allowed.{is_allowed, is_mailbox}
+use Rattle.pc_message.specs.declared.descriptor.Change.TheVariants.{Present, Expunged}
+use Rattle.pc_message.specs.Descriptor.{descriptor_of}
+use Rattle.pc_history.specs.Answers.{changed, first_changes}
+use Rattle.pc_history.specs.Limits.{is_passed, limit_passed, listed_count, weight}
+
+abbrev pub box : List ℕ
+box = codes "inbox"
+
+abbrev pub work : List ℕ
+work = codes "work"
+
+abbrev pub first_client : List ℕ
+first_client = codes "ws1"
+
+abbrev pub second_client : List ℕ
+second_client = codes "ws2"
+
+-- a message of one line, which counts 5 + 256
+abbrev pub note : List (List ℕ)
+note = codes "one" ∷ []
+
+-- as many letters of it to a mailbox
+abbrev pub notes_to : List ℕ → ℕ → List (List ℕ × List (List ℕ))
+notes_to mailbox count = replicate count (mailbox, note)
+
+-- a list as pairs of uid and stamp
+abbrev pub pairs_of : List Listed → List (ℕ × ℕ)
+pairs_of list = map (λ listed. (listed.uid, listed.stamp)) list
+
+abbrev pub list_in : History → List ℕ → List ℕ → List (ℕ × ℕ)
+list_in h client mailbox = pairs_of ((known h).changes client mailbox)
+
+-- the flags of a message that lives
+abbrev pub flags_in : History → List ℕ → ℕ → Option ℕ
+flags_in h mailbox uid = option_map (λ kept. kept.flags) ((known h).kept mailbox uid)
+
+abbrev pub enrolled : History
+enrolled = new_account ▸ Password (replicate 32 7) ▸ MakeMailbox box
+
+-- two clients, and five mails pulled by entry 5
+abbrev pub five_pulled : History
+five_pulled = enrolled ▸ MakeClient first_client ▸ MakeClient second_client ▸ Pull 5 (notes_to box 5)
+
+-- a flag is set; then one client has taken the four that it was shown with the stamp they have
+abbrev pub flag_between : History
+flag_between = five_pulled ▸ Flag box 5 1 true ▸ Forget first_client box (1 ∷ 2 ∷ 3 ∷ 4 ∷ [])
+
+abbrev pub FlagBetween : Type 0
+FlagBetween = (list_in five_pulled first_client box ≡ (1, 5) ∷ (2, 5) ∷ (3, 5) ∷ (4, 5) ∷ (5, 5) ∷ [])
+    × (list_in flag_between first_client box ≡ (5, 6) ∷ [])
+    × (list_in flag_between second_client box ≡ (1, 5) ∷ (2, 5) ∷ (3, 5) ∷ (4, 5) ∷ (5, 6) ∷ [])
+    × (flags_in flag_between box 5 ≡ Some 2)
+    × ((known flag_between).listed first_client box 4 ≡ None)
+    × ((known flag_between).listed first_client box 5 ≡ Some 6)
+
+-- the flag again, a flag of a uid that was never given, and a second taking of the four are no entries; a taking of the fifth is
+abbrev pub NothingTwice : Type 0
+NothingTwice = (is_allowed (known flag_between) (Flag box 5 1 true) ≡ false)
+    × (is_allowed (known flag_between) (Flag box 5 1 false) ≡ true)
+    × (is_allowed (known flag_between) (Flag box 6 1 true) ≡ false)
+    × (is_allowed (known flag_between) (Forget first_client box (4 ∷ [])) ≡ false)
+    × (is_allowed (known flag_between) (Forget first_client box (5 ∷ [])) ≡ true)
+    × (is_allowed (known flag_between) (Forget second_client box (2 ∷ 5 ∷ [])) ≡ true)
+    × (is_allowed (known flag_between) (Forget second_client box (5 ∷ 2 ∷ [])) ≡ false)
+    × (is_allowed (known flag_between) (Forget second_client box []) ≡ false)
+
+-- what a client has taken is listed anew by a later touch
+abbrev pub touched_again : History
+touched_again = flag_between ▸ Forget first_client box (5 ∷ []) ▸ Flag box 5 2 true
+
+abbrev pub TouchedAgain : Type 0
+TouchedAgain = (list_in (flag_between ▸ Forget first_client box (5 ∷ [])) first_client box ≡ []) × (list_in touched_again first_client box ≡ (5, 9) ∷ [])
+
+-- a client that has taken all, and then an expunge that another client asks for
+abbrev pub one_taken : History
+one_taken = enrolled ▸ MakeClient first_client ▸ ResetClient first_client ▸ Pull 1 (notes_to box 1) ▸ Forget first_client box (1 ∷ [])
+
+abbrev pub expunged : History
+expunged = one_taken ▸ MakeClient second_client ▸ Flag box 1 0 true ▸ Expunge box
+
+abbrev pub ExpungeIsSeen : Type 0
+ExpungeIsSeen = (list_in one_taken first_client box ≡ [])
+    × (list_in expunged first_client box ≡ (1, 9) ∷ [])
+    × (list_in expunged second_client box ≡ (1, 9) ∷ [])
+    × (flags_in expunged box 1 ≡ None)
+    × (is_allowed (known expunged) (Flag box 1 1 true) ≡ false)
+    × (is_allowed (known expunged) (Expunge box) ≡ false)
+    × (is_allowed (known (one_taken ▸ Flag box 1 0 true)) (Expunge box) ≡ true)
+    × ((known expunged).highest box ≡ 1)
+
+-- a mailbox with three messages is deleted, made again, and gets a fourth
+abbrev pub work_pulled : History
+work_pulled = enrolled ▸ MakeMailbox work ▸ MakeClient second_client ▸ Pull 3 (notes_to work 3)
+
+abbrev pub made_again : History
+made_again = work_pulled ▸ DropMailbox work ▸ MakeMailbox work ▸ Pull 4 (notes_to work 1)
+
+abbrev pub MadeAgain : Type 0
+MadeAgain = (list_in made_again second_client work ≡ (1, 6) ∷ (2, 6) ∷ (3, 6) ∷ (4, 8) ∷ [])
+    × (flags_in made_again work 3 ≡ None)
+    × (flags_in made_again work 4 ≡ Some 0)
+    × ((known made_again).live ≡ box ∷ work ∷ [])
+    × (is_mailbox (known (work_pulled ▸ DropMailbox work)) work ≡ false)
+    × ((known (work_pulled ▸ DropMailbox work)).dropped ≡ work ∷ [])
+    × (is_allowed (known work_pulled) (MakeMailbox work) ≡ false)
+    × (is_allowed (known work_pulled) (DropMailbox box) ≡ false)
+    × (is_allowed (known (work_pulled ▸ DropMailbox work)) (Pull 4 (notes_to work 1)) ≡ false)
+    × (is_allowed (known work_pulled) (Pull 3 (notes_to work 1)) ≡ false)
+
+-- a copy has the flags of its original, but for the one that says deleted
+abbrev pub copied : History
+copied = work_pulled ▸ Flag work 2 0 true ▸ Flag work 2 1 true ▸ Flag work 2 15 true ▸ Copy work 2 box
+
+abbrev pub CopyIsNotDeleted : Type 0
+CopyIsNotDeleted = (flags_in copied work 2 ≡ Some 32771)
+    × (flags_in copied box 1 ≡ Some 32770)
+    × (list_in copied second_client box ≡ (1, 9) ∷ [])
+    × (flags_in (copied ▸ Expunge work) box 1 ≡ Some 32770)
+    × (list_in (copied ▸ Expunge work) second_client work ≡ (1, 5) ∷ (3, 5) ∷ (2, 10) ∷ [])
+
+-- a client that is deleted has no list; made again, it has all that lives, with its birth as stamp
+abbrev pub client_again : History
+client_again = one_taken ▸ DropClient first_client ▸ MakeClient first_client
+
+abbrev pub ClientAgain : Type 0
+ClientAgain = (birth one_taken first_client ≡ Some 3)
+    × (birth (one_taken ▸ DropClient first_client) first_client ≡ None)
+    × (list_in (one_taken ▸ DropClient first_client ▸ Flag box 1 1 true) first_client box ≡ [])
+    × (birth client_again first_client ≡ Some 8)
+    × (list_in client_again first_client box ≡ (1, 8) ∷ [])
+    × (list_in (client_again ▸ ResetClient first_client) first_client box ≡ (1, 9) ∷ [])
+    × (is_allowed (known client_again) (MakeClient first_client) ≡ false)
+
+-- letters of one pull, to two mailboxes in turn
+abbrev pub other_note : List (List ℕ)
+other_note = codes "two" ∷ []
+
+abbrev pub mixed_pull : History
+mixed_pull = work_pulled ▸ Pull 7 ((work, other_note) ∷ (box, note) ∷ (work, note) ∷ (box, other_note) ∷ [])
+
+abbrev pub LettersInOrder : Type 0
+LettersInOrder = ((known mixed_pull).kept work 4 ≡ Some (arrived 4 other_note))
+    × ((known mixed_pull).kept work 5 ≡ Some (arrived 5 note))
+    × ((known mixed_pull).kept box 1 ≡ Some (arrived 1 note))
+    × ((known mixed_pull).kept box 2 ≡ Some (arrived 2 other_note))
+    × ((known mixed_pull).kept box 3 ≡ None)
+    × ((known mixed_pull).kept box 0 ≡ None)
+    × ((known mixed_pull).pulled ≡ 7)
+    × (list_in mixed_pull second_client work ≡ (1, 5) ∷ (2, 5) ∷ (3, 5) ∷ (4, 6) ∷ (5, 6) ∷ [])
+    × (changed (known (mixed_pull ▸ DropMailbox work)) second_client work 2 ≡ Expunged 1 ∷ Expunged 2 ∷ [])
+    × (changed (known mixed_pull) second_client box 1 ≡ Present (descriptor_of note 1 0) ∷ [])
+    × (first_changes (known mixed_pull) second_client work 0 ≡ [])
+
+-- clients in order of making, a client made again last
+abbrev pub ClientsInOrder : Type 0
+ClientsInOrder = ((known five_pulled).clients ≡ (first_client, 3) ∷ (second_client, 4) ∷ [])
+    × ((known (five_pulled ▸ DropClient first_client ▸ MakeClient first_client)).clients ≡ (second_client, 4) ∷ (first_client, 7) ∷ [])
+    × (list_in (five_pulled ▸ DropClient first_client) second_client box ≡ (1, 5) ∷ (2, 5) ∷ (3, 5) ∷ (4, 5) ∷ (5, 5) ∷ [])
+
+-- a reset of one mailbox lists what lives there and nothing of another
+abbrev pub ResetOfOne : Type 0
+ResetOfOne = (list_in (copied ▸ Forget second_client box (1 ∷ []) ▸ ResetMailbox second_client work) second_client work ≡ (1, 11) ∷ (2, 11) ∷ (3, 11) ∷ [])
+    × (list_in (copied ▸ Forget second_client box (1 ∷ []) ▸ ResetMailbox second_client work) second_client box ≡ [])
+
+-- subscriptions in order, with marks that begin at 0
+abbrev pub SubscribedAgain : Type 0
+SubscribedAgain = ((known (enrolled ▸ Subscribe work ▸ Subscribe box ▸ Mark work 4)).subscriptions ≡ (work, 4) ∷ (box, 0) ∷ [])
+    × ((known (enrolled ▸ Subscribe work ▸ Subscribe box ▸ Mark work 4 ▸ Unsubscribe work ▸ Subscribe work)).subscriptions ≡ (box, 0) ∷ (work, 0) ∷ [])
+    × (is_allowed (known (enrolled ▸ Subscribe work)) (Mark work 0) ≡ false)
+    × (is_allowed (known enrolled) (Mark work 1) ≡ false)
+    × (is_allowed (known enrolled) (Password (replicate 32 7)) ≡ false)
+    × (is_allowed (known enrolled) (Password (replicate 32 8)) ≡ true)
+
+-- as many names, all different
+abbrev pub names : ℕ → List (List ℕ)
+names count = map (λ letter. 110 ∷ letter ∷ []) (numbers 47 count)
+
+-- a record with 16 clients and 64 subscriptions
+abbrev pub full_record : AccountRecord
+full_record = record empty_record { clients = map (λ name. (name, 1)) (names 16); subscriptions = map (λ name. (name, 0)) (names 64) }
+
+-- a record with one mailbox in which so many uids were given
+abbrev pub one_mailbox : ℕ → AccountRecord
+one_mailbox highest = record empty_record { live = (work, record { highest = highest; messages = arrived 1 note ∷ []; lists = [] }) ∷ [] }
+
+-- where several limits would be passed the first in their order is told, and an entry meets the limits that it can pass and no other
+abbrev pub FirstLimit : Type 0
+FirstLimit = (limit_passed (known (start full_record 9)) (MakeClient box) ≡ Some limit.Clients)
+    × (limit_passed (known (start full_record 9)) (Subscribe box) ≡ Some limit.Subscriptions)
+    × (limit_passed (known (start full_record 9)) (MakeMailbox box) ≡ None)
+    × (limit_passed (known (start full_record 9)) (Password []) ≡ None)
+    × (limit_passed (known (start (record empty_record { live = map (λ name. (name, new_mailbox [])) (names 40); dropped = map (λ name. (name, new_mailbox [])) (names 24) }) 9)) (MakeMailbox box) ≡ Some limit.Mailboxes)
+    × (is_passed (known (start (one_mailbox 1000000000) 9 ▸ Copy work 1 work)) limit.Uids ≡ true)
+    × (is_passed (known (start (one_mailbox 999999999) 9 ▸ Copy work 1 work)) limit.Uids ≡ false)
+    × (listed_count (known flag_between) ≡ 6)
+    × (weight (known copied) ≡ 1044)
+
+-- a new account is legal, and so are the histories above
+abbrev pub SamplesAreLegal : Type 0
+SamplesAreLegal = IsLegal new_account × IsLegal touched_again × IsLegal expunged × IsLegal made_again × IsLegal copied × IsLegal client_again
+
+-- the record of a mailbox that was made again: the uids go on, and the list tells of those that are gone
+abbrev pub RecordOfMadeAgain : Type 0
+RecordOfMadeAgain = ((mailbox_of (record_of made_again) work).highest ≡ 4)
+    × ((mailbox_of (record_of made_again) work).messages ≡ arrived 4 note ∷ [])
+    × (pairs_of (list_of (mailbox_of (record_of made_again) work) second_client) ≡ (1, 6) ∷ (2, 6) ∷ (3, 6) ∷ (4, 8) ∷ [])
+    × (keys_of (record_of made_again).live ≡ box ∷ work ∷ [])
+    × (keys_of (record_of (work_pulled ▸ DropMailbox work)).dropped ≡ work ∷ [])

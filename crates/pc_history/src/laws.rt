@@ -1,0 +1,83 @@
+//! What holds of every legal history. Each law is the contract of a function that does nothing.
+
+ghost use Rattle.pc_history.specs.Laws.{RecordAnswersAsHistory, RecordInPlaceOfHistory, RecordIsCanonical, ChangesAreTheUpdateList, StampsAreNumbersOfEntries, LimitsHold, LimitIsPassed, RecordIsCounted, StepIsOneEntryMore, UntouchedStays, UnlistedWasTaken, ClientStays, SameStampSameMessage, ListedIsTouchedSince, KeptUnderItsUid, OneFlagIsSet};
+
+/// The record of a history answers every question as the history does.
+pub fn record_answers_as_history()
+    ensures { RecordAnswersAsHistory }
+{}
+
+/// A record may stand in the place of the history whose record it is, whatever comes behind.
+pub fn record_in_place_of_history()
+    ensures { RecordInPlaceOfHistory }
+{}
+
+/// The record of a legal history is canonical.
+pub fn record_is_canonical()
+    ensures { RecordIsCanonical }
+{}
+
+/// The list that a history keeps for a client is its update list, by stamp and then uid.
+pub fn changes_are_the_update_list()
+    ensures { ChangesAreTheUpdateList }
+{}
+
+/// Births and stamps are numbers of entries, and listed uids were given.
+pub fn stamps_are_numbers_of_entries()
+    ensures { StampsAreNumbersOfEntries }
+{}
+
+/// No limit is passed at any place of a legal history. That of changes may be where its base passes it.
+pub fn limits_hold()
+    ensures { LimitsHold }
+{}
+
+/// A limit is told only where it would be passed.
+pub fn limit_is_passed()
+    ensures { LimitIsPassed }
+{}
+
+/// Messages, weight and changes are counted over the record.
+pub fn record_is_counted()
+    ensures { RecordIsCounted }
+{}
+
+/// The step of a record is one entry more.
+pub fn step_is_one_entry_more()
+    ensures { StepIsOneEntryMore }
+{}
+
+/// An entry that doesn't touch a message for a client leaves it as it was.
+pub fn untouched_stays()
+    ensures { UntouchedStays }
+{}
+
+/// What lives and isn't listed for a client was taken by it.
+pub fn unlisted_was_taken()
+    ensures { UnlistedWasTaken }
+{}
+
+/// A client has its birth until an entry makes it or drops it.
+pub fn client_stays()
+    ensures { ClientStays }
+{}
+
+/// A stamp that is still the one that was shown shows that the message is what it was.
+pub fn same_stamp_same_message()
+    ensures { SameStampSameMessage }
+{}
+
+/// While a client takes nothing, its list tells exactly what was touched.
+pub fn listed_is_touched_since()
+    ensures { ListedIsTouchedSince }
+{}
+
+/// A message that lives is kept under its own uid.
+pub fn kept_under_its_uid()
+    ensures { KeptUnderItsUid }
+{}
+
+/// Setting a flag leaves the other flags as they were.
+pub fn one_flag_is_set()
+    ensures { OneFlagIsSet }
+{}

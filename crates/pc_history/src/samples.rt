@@ -1,0 +1,73 @@
+//! Small histories, with what their answers must be. Each law is the contract of a function that does nothing.
+
+ghost use Rattle.pc_history.specs.Samples.{FlagBetween, NothingTwice, TouchedAgain, ExpungeIsSeen, MadeAgain, CopyIsNotDeleted, ClientAgain, ResetOfOne, SubscribedAgain, FirstLimit, SamplesAreLegal, RecordOfMadeAgain, LettersInOrder, ClientsInOrder};
+
+/// A client is shown five changes, a flag is set, and the client takes what it was shown: the flagged one stays listed.
+pub fn a_flag_between()
+    ensures { FlagBetween }
+{}
+
+/// What is so already is no entry.
+pub fn nothing_twice()
+    ensures { NothingTwice }
+{}
+
+/// A change that was taken is listed anew by a later touch.
+pub fn touched_again()
+    ensures { TouchedAgain }
+{}
+
+/// An expunge is on the list of every client.
+pub fn expunge_is_seen()
+    ensures { ExpungeIsSeen }
+{}
+
+/// Uids go on where a mailbox is deleted and made again.
+pub fn mailbox_made_again()
+    ensures { MadeAgain }
+{}
+
+/// A copy has the flags of its original, but for flag 0.
+pub fn copy_is_not_deleted()
+    ensures { CopyIsNotDeleted }
+{}
+
+/// A client that is made again begins with all that lives.
+pub fn client_made_again()
+    ensures { ClientAgain }
+{}
+
+/// A reset of a mailbox lists what lives there.
+pub fn reset_of_one_mailbox()
+    ensures { ResetOfOne }
+{}
+
+/// Subscriptions keep their order, and marks begin at 0.
+pub fn subscribed_again()
+    ensures { SubscribedAgain }
+{}
+
+/// The limits have an order.
+pub fn first_limit()
+    ensures { FirstLimit }
+{}
+
+/// The samples are legal histories.
+pub fn samples_are_legal()
+    ensures { SamplesAreLegal }
+{}
+
+/// What the record keeps of a mailbox that was made again.
+pub fn record_of_made_again()
+    ensures { RecordOfMadeAgain }
+{}
+
+/// Letters of a pull get the next uids of their mailboxes in order.
+pub fn letters_in_order()
+    ensures { LettersInOrder }
+{}
+
+/// Clients stand in the order in which they were made.
+pub fn clients_in_order()
+    ensures { ClientsInOrder }
+{}
