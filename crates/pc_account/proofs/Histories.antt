@@ -1,5 +1,5 @@
 -- What looking back through a history says of the list of its entries.
-use Rattle.std.proofs.Common.{◌≡◌, ℕ, ◌+◌, ◌<◌, Bool, true, false, not, ◌&&◌, ◌||◌, cond, nat_lt, IsTrue, List, [], ◌∷◌, ◌++◌, length, take, get_or, map, count_by, Option, Some, None, refl, sym, ap, ◌∙◌, subst, arith, append-nil, append_assoc, add_assoc, add-zero, zero-add}
+use Rattle.std.proofs.Common.{◌≡◌, ℕ, ◌+◌, ◌<◌, Bool, true, false, not, ◌&&◌, ◌||◌, cond, nat_lt, IsTrue, List, [], ◌∷◌, ◌++◌, length, take, get_or, map, count_by, refl, sym, ap, ◌∙◌, arith, add_assoc, add-zero, zero-add}
 use Rattle.std.specs.List.{list_any}
 use Rattle.std.proofs.lemmas.Grind.{common_steps}
 use Rattle.std.proofs.lemmas.List.{take_more, map-append}

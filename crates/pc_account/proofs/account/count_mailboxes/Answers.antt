@@ -1,4 +1,4 @@
-use Rattle.std.proofs.Common.{rules, sym}
+use Rattle.std.proofs.Common.{rules}
 use Rattle.pc_account.proofs.Histories.{names_made-count}
 use Rattle.pc_account.proofs.account.count_mailboxes.Goals as goal
 
