@@ -1,5 +1,5 @@
 -- What decimal digits stand for, one digit on, and with more digits behind.
-use Rattle.std.proofs.Common.{◌≡◌, ℕ, ◌+◌, ◌*◌, ◌-◌, ◌^◌, ◌≤◌, ◌<◌, get_or, take, drop, take-append-drop, List, [], ◌∷◌, ◌++◌, length, subst, sym, ap, ◌∙◌, arith, length-append, append_assoc, append-nil, add-one}
+use Rattle.std.proofs.Common.{◌≡◌, ℕ, ◌+◌, ◌*◌, ◌-◌, ◌≤◌, ◌<◌, get_or, take, drop, take-append-drop, List, [], ◌∷◌, ◌++◌, length, subst, arith, length-append, append_assoc, append-nil, add-one}
 use Rattle.std.proofs.lemmas.List.{take_more}
 use Rattle.std.proofs.Math.Nat.{pow-suc}
 use Rattle.pc_base.specs.Number.{decimal_value}

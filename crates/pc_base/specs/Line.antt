@@ -1,5 +1,5 @@
 -- Lines of content.
-use Rattle.std.specs.Prelude.{◌≡◌, ℕ, ◌<◌, ◌==◌, Bool, true, false, not, ◌&&◌, nat_le, IsTrue, List, length, Result, Ok, Err}
+use Rattle.std.specs.Prelude.{◌≡◌, ℕ, ◌<◌, ◌==◌, Bool, not, ◌&&◌, nat_le, IsTrue, List, length, Result, Ok, Err}
 use Rattle.std.specs.List.{list_any}
 use Rattle.pc_base.specs.declared.line.LineFault.{LineFault}
 use Rattle.pc_base.specs.declared.line.LineFault.TheVariants.{TooLong, HasLf, Memory}

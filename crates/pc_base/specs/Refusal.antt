@@ -1,7 +1,5 @@
 -- The heads of refusals, and how an address that is unknown is shown.
-use Rattle.std.specs.Prelude.{ℕ, ◌==◌, Bool, ◌&&◌, List, [], ◌∷◌, ◌++◌, length, map, take, codes, decimal, if◌then◌else◌, nat_lt, nat_le}
-use Rattle.std.specs.List.{list_all}
-use Rattle.pc_base.specs.Name.{is_printed}
+use Rattle.std.specs.Prelude.{ℕ, List, ◌++◌, codes, decimal}
 use Rattle.pc_base.specs.declared.refusal.LimitWord.{LimitWord}
 use Rattle.pc_base.specs.declared.refusal.LimitWord.TheVariants as limit
 use Rattle.pc_base.specs.declared.refusal.Refusal.{Refusal}

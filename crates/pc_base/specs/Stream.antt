@@ -1,5 +1,5 @@
 -- What reads and writes of the outside do, and what their failures say.
-use Rattle.std.specs.Prelude.{◌≡◌, ℕ, ◌+◌, ◌-◌, ◌^◌, ◌≤◌, min, List, [], ◌∷◌, take, drop, length, Option, Some, None, Result, Ok, Err, OnErr, MatchResult}
+use Rattle.std.specs.Prelude.{ℕ, ◌+◌, ◌-◌, ◌^◌, ◌≤◌, min, List, take, Option, Result, OnErr, MatchResult}
 use Rattle.std.specs.Io.KnownBytes.{Appends}
 use Rattle.pc_base.specs.declared.failure.Failed.{Failed}
 

@@ -1,6 +1,6 @@
 //! Where bytes go.
 
-ghost use Rattle.std.specs.Prelude.{◌≡◌, ℕ, ◌-◌, ◌<◌, List, Option, IfOk, IsErr, [], length};
+ghost use Rattle.std.specs.Prelude.{◌≡◌, ℕ, ◌-◌, ◌<◌, min, List, Option, IfOk, OnOk, IsErr, [], length};
 ghost use Rattle.std.specs.Io.{WritesAtMost};
 ghost use Rattle.std.specs.Io.KnownBytes.{WriteAppends};
 ghost use Rattle.pc_base.specs.Stream.{HasCause, WritesAll};
@@ -114,6 +114,9 @@ impl Sink for MemorySink {
         ensures cause { HasCause self.old.faults self.new.faults result }
         ensures due { self.old.failing ≡ 1 → IsErr result }
         ensures next { self.new.failing ≡ self.old.failing - 1 }
+        ensures count { IfOk result (λ count. count ≡ min (length bytes.now) self.old.piece) }
+        ensures calm { OnOk result (self.new.faults ≡ self.old.faults) }
+        ensures piece { self.new.piece ≡ self.old.piece }
     {
         let is_due = self.failing == 1;
         self.failing = self.failing.saturating_sub(1);

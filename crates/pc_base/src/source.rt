@@ -1,6 +1,6 @@
 //! Where bytes come from.
 
-ghost use Rattle.std.specs.Prelude.{◌≡◌, ℕ, ◌-◌, ◌<◌, ◌↔◌, List, Option, IsErr};
+ghost use Rattle.std.specs.Prelude.{◌≡◌, ℕ, ◌-◌, ◌<◌, ◌↔◌, min, List, length, Option, IsErr, IfOk, OnOk};
 ghost use Rattle.std.specs.Io.{ReadsAtMost};
 ghost use Rattle.std.specs.Io.KnownBytes.{ReadConsumes};
 ghost use Rattle.pc_base.specs.Stream.{HasCause};
@@ -89,6 +89,9 @@ impl<'a> Source for MemorySource<'a> {
         ensures cause { HasCause self.old.faults self.new.faults result }
         ensures due { IsErr result ↔ (self.old.failing ≡ 1) }
         ensures next { self.new.failing ≡ self.old.failing - 1 }
+        ensures count { IfOk result (λ count. count ≡ min (min (length into.new) self.old.piece) (length self.old.bytes)) }
+        ensures calm { OnOk result (self.new.faults ≡ self.old.faults) }
+        ensures piece { self.new.piece ≡ self.old.piece }
     {
         let is_due = self.failing == 1;
         self.failing = self.failing.saturating_sub(1);

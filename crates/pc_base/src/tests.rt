@@ -331,7 +331,7 @@ fn a_source_in_pieces(rt: HostRuntime) {
         (5, Ok(0), b"fgh.."),
     ];
     for (room, count, seen) in steps {
-        assert_eq!(rt; source.read(&mut into[..room]), count);
+        assert_eq!(rt; source.read(&mut into[..room.min(5)]), count);
         assert_eq!(rt; into.as_slice(), seen);
     }
 }
