@@ -1,17 +1,19 @@
 -- Small histories with what each answer must be.
-use Rattle.std.specs.Prelude.{◌≡◌, ℕ, true, false, List, [], ◌∷◌, map, codes, Option, Some, None, replicate}
+use Rattle.std.specs.Prelude.{◌≡◌, ℕ, Bool, true, false, List, [], ◌∷◌, map, codes, Option, Some, None, replicate}
 use Rattle.std.specs.Option.{option_map}
 use Rattle.pc_history.specs.Table.{numbers}
+use Rattle.pc_base.specs.declared.refusal.LimitWord.{LimitWord}
 use Rattle.pc_base.specs.declared.refusal.LimitWord.TheVariants as limit
 use Rattle.pc_history.specs.declared.kept.Listed.{Listed}
+use Rattle.pc_history.specs.declared.entry.Entry.{Entry}
 use Rattle.pc_history.specs.declared.entry.Entry.TheVariants.{MakeMailbox, DropMailbox, Flag, Expunge, Copy, MakeClient, DropClient, ResetClient, ResetMailbox, Forget, Pull, Password, Subscribe, Unsubscribe, Mark}
 use Rattle.pc_history.specs.Record.{AccountRecord, empty_record, new_mailbox, mailbox_of, list_of}
 use Rattle.pc_history.specs.Effect.{arrived}
 use Rattle.pc_history.specs.Step.{record_of}
-use Rattle.pc_history.specs.Legal.{IsLegal}
+use Rattle.pc_history.specs.Legal.{IsWellFormed, IsLegal}
 use Rattle.std.specs.Map.{keys_of}
 use Rattle.pc_history.specs.History.{History, ◌▸◌, new_account, known, birth, start}
-use Rattle.pc_history.specs.Allowed.{is_allowed, is_mailbox}
+use Rattle.pc_history.specs.Allowed.{is_allowed, is_mailbox, messages}
 use Rattle.pc_message.specs.declared.descriptor.Change.TheVariants.{Present, Expunged}
 use Rattle.pc_message.specs.Descriptor.{descriptor_of}
 use Rattle.pc_history.specs.Answers.{changed, first_changes}
@@ -220,3 +222,161 @@ RecordOfMadeAgain = ((mailbox_of (record_of made_again) work).highest ≡ 4)
     × (pairs_of (list_of (mailbox_of (record_of made_again) work) second_client) ≡ (1, 6) ∷ (2, 6) ∷ (3, 6) ∷ (4, 8) ∷ [])
     × (keys_of (record_of made_again).live ≡ box ∷ work ∷ [])
     × (keys_of (record_of (work_pulled ▸ DropMailbox work)).dropped ≡ work ∷ [])
+
+-- ---- corners
+
+-- the uids that live in a mailbox, with their flags
+abbrev pub living : History → List ℕ → List (ℕ × ℕ)
+living h mailbox = map (λ kept. (kept.uid, kept.flags)) (messages (known h) mailbox)
+
+-- of each entry, whether it is allowed
+abbrev pub allows : History → List Entry → List Bool
+allows h entries = map (is_allowed (known h)) entries
+
+-- of each entry, the limit that it would pass first
+abbrev pub passes : History → List Entry → List (Option LimitWord)
+passes h entries = map (limit_passed (known h)) entries
+
+-- a message with flag 0 on goes with its mailbox, which is made again and gets another
+abbrev pub gone_with_flag : History
+gone_with_flag = new_account ▸ MakeMailbox work ▸ MakeClient first_client ▸ Pull 1 (notes_to work 1) ▸ Flag work 1 0 true ▸ DropMailbox work ▸ MakeMailbox work ▸ Pull 2 (notes_to work 1)
+
+-- two messages are expunged, one after the other
+abbrev pub one_by_one : History
+one_by_one = new_account ▸ MakeMailbox box ▸ MakeClient first_client ▸ Pull 2 (notes_to box 2) ▸ Flag box 1 0 true ▸ Expunge box ▸ Flag box 2 0 true ▸ Expunge box
+
+-- what is gone isn't touched by a later expunge, and its flag 0 counts no longer
+abbrev pub GoneStaysGone : Type 0
+GoneStaysGone = (allows gone_with_flag (Expunge work ∷ Flag work 1 0 false ∷ Copy work 1 work ∷ []) ≡ false ∷ false ∷ false ∷ [])
+    × (list_in (gone_with_flag ▸ Flag work 2 0 true ▸ Expunge work) first_client work ≡ (1, 5) ∷ (2, 9) ∷ [])
+    × (list_in one_by_one first_client box ≡ (1, 5) ∷ (2, 7) ∷ [])
+
+-- a deleted and seen message is copied; then it is unseen, and the copy and the message are copied
+abbrev pub copied_once : History
+copied_once = new_account ▸ MakeMailbox box ▸ MakeMailbox work ▸ Pull 1 (notes_to box 1) ▸ Flag box 1 0 true ▸ Flag box 1 1 true ▸ Copy box 1 work
+
+abbrev pub copied_twice : History
+copied_twice = copied_once ▸ Flag box 1 1 false ▸ Copy work 1 box ▸ Copy box 1 box
+
+-- a copy has the flags of its original at that moment, also within one mailbox and where the original was a copy
+abbrev pub CopyOfCopy : Type 0
+CopyOfCopy = (living copied_once work ≡ (1, 2) ∷ [])
+    × (allows copied_once (Expunge work ∷ Expunge box ∷ Flag work 1 1 true ∷ Flag work 1 0 true ∷ []) ≡ false ∷ true ∷ false ∷ true ∷ [])
+    × (living copied_twice work ≡ (1, 2) ∷ [])
+    × (living copied_twice box ≡ (1, 1) ∷ (2, 2) ∷ (3, 0) ∷ [])
+    × (living (copied_twice ▸ Expunge box) box ≡ (2, 2) ∷ (3, 0) ∷ [])
+
+-- the second of three mailboxes is deleted
+abbrev pub third : List ℕ
+third = codes "third"
+
+abbrev pub work_gone : History
+work_gone = new_account ▸ MakeMailbox box ▸ MakeMailbox work ▸ MakeMailbox third ▸ MakeClient first_client ▸ Pull 2 (notes_to work 2) ▸ DropMailbox work
+
+-- while a mailbox is gone its changes stay listed, and none can be taken before it is made again; then it is the last of all
+abbrev pub WhileGone : Type 0
+WhileGone = (changed (known (work_gone ▸ ResetClient first_client)) first_client work 9 ≡ Expunged 1 ∷ Expunged 2 ∷ [])
+    × (list_in (work_gone ▸ ResetClient first_client) first_client work ≡ (1, 6) ∷ (2, 6) ∷ [])
+    × (allows work_gone (Forget first_client work (1 ∷ []) ∷ ResetMailbox first_client work ∷ Expunge work ∷ Copy work 1 box ∷ DropMailbox work ∷ MakeMailbox work ∷ []) ≡ false ∷ false ∷ false ∷ false ∷ false ∷ true ∷ [])
+    × (allows (work_gone ▸ MakeMailbox work) (Forget first_client work (1 ∷ []) ∷ ResetMailbox first_client work ∷ Expunge work ∷ Copy work 1 box ∷ DropMailbox work ∷ MakeMailbox work ∷ []) ≡ true ∷ true ∷ false ∷ false ∷ true ∷ false ∷ [])
+    × ((known work_gone).live ≡ box ∷ third ∷ [])
+    × ((known (work_gone ▸ MakeMailbox work)).live ≡ box ∷ third ∷ work ∷ [])
+
+-- of three messages the second is expunged
+abbrev pub second_gone : History
+second_gone = new_account ▸ MakeMailbox box ▸ MakeClient first_client ▸ Pull 3 (notes_to box 3) ▸ Flag box 2 0 true ▸ Expunge box
+
+-- a reset leaves what is gone where it stands, if it isn't taken; a client that is made again isn't told of it
+abbrev pub ResetAndGone : Type 0
+ResetAndGone = (list_in second_gone first_client box ≡ (1, 3) ∷ (3, 3) ∷ (2, 5) ∷ [])
+    × (list_in (second_gone ▸ ResetClient first_client) first_client box ≡ (2, 5) ∷ (1, 6) ∷ (3, 6) ∷ [])
+    × (list_in (second_gone ▸ Forget first_client box (2 ∷ 3 ∷ []) ▸ ResetClient first_client) first_client box ≡ (1, 7) ∷ (3, 7) ∷ [])
+    × (list_in (second_gone ▸ DropClient first_client ▸ MakeClient first_client) first_client box ≡ (1, 7) ∷ (3, 7) ∷ [])
+    × (allows (second_gone ▸ DropClient first_client) (ResetClient first_client ∷ Forget first_client box (1 ∷ []) ∷ DropClient first_client ∷ []) ≡ false ∷ false ∷ false ∷ [])
+
+-- a letter in each of two mailboxes, one taken by each of two clients
+abbrev pub taken_apart : History
+taken_apart = new_account ▸ MakeMailbox box ▸ MakeMailbox work ▸ MakeClient first_client ▸ MakeClient second_client ▸ Pull 2 ((box, note) ∷ (work, note) ∷ []) ▸ Forget first_client box (1 ∷ []) ▸ Forget second_client work (1 ∷ [])
+
+-- a reset changes no list of another client or another mailbox
+abbrev pub ResetsApart : Type 0
+ResetsApart = (map (list_in (taken_apart ▸ ResetMailbox first_client box) first_client) (box ∷ work ∷ []) ≡ ((1, 8) ∷ []) ∷ ((1, 5) ∷ []) ∷ [])
+    × (map (list_in (taken_apart ▸ ResetMailbox first_client box) second_client) (box ∷ work ∷ []) ≡ ((1, 5) ∷ []) ∷ [] ∷ [])
+    × (map (list_in (taken_apart ▸ ResetClient second_client) second_client) (box ∷ work ∷ []) ≡ ((1, 8) ∷ []) ∷ ((1, 8) ∷ []) ∷ [])
+    × (map (list_in (taken_apart ▸ ResetClient second_client) first_client) (box ∷ work ∷ []) ≡ [] ∷ ((1, 5) ∷ []) ∷ [])
+
+-- a base with entries up to number 8: of three messages that were given in one mailbox the third lives, deleted and seen
+abbrev pub some_record : AccountRecord
+some_record = record {
+  pulled = 3;
+  digest = Some (replicate 32 7);
+  clients = (first_client, 4) ∷ [];
+  live = (box, new_mailbox ((first_client, 4) ∷ [])) ∷ (work, record { highest = 3; messages = record { uid = 3; flags = 3; message = note } ∷ []; lists = (first_client, record { uid = 1; stamp = 6 } ∷ record { uid = 2; stamp = 6 } ∷ record { uid = 3; stamp = 8 } ∷ []) ∷ [] }) ∷ [];
+  dropped = (third, record { highest = 2; messages = []; lists = (first_client, record { uid = 2; stamp = 5 } ∷ []) ∷ [] }) ∷ [];
+  subscriptions = (work, 5) ∷ [];
+}
+
+abbrev pub based : History
+based = start some_record 9
+
+-- entries behind a base go on from what it says
+abbrev pub BaseGoesOn : Type 0
+BaseGoesOn = (changed (known based) first_client work 9 ≡ Expunged 1 ∷ Expunged 2 ∷ Present (descriptor_of note 3 3) ∷ [])
+    × (allows based (Expunge work ∷ Flag work 3 0 true ∷ Flag work 3 2 true ∷ Flag work 1 1 true ∷ Pull 3 (notes_to box 1) ∷ Pull 4 (notes_to box 1) ∷ MakeClient first_client ∷ MakeMailbox third ∷ Mark work 5 ∷ Password (replicate 32 7) ∷ []) ≡ true ∷ false ∷ true ∷ false ∷ false ∷ true ∷ false ∷ true ∷ false ∷ false ∷ [])
+    × (list_in (based ▸ Expunge work) first_client work ≡ (1, 6) ∷ (2, 6) ∷ (3, 9) ∷ [])
+    × (list_in (based ▸ Forget first_client work (1 ∷ 3 ∷ [])) first_client work ≡ (2, 6) ∷ [])
+    × (living (based ▸ Copy work 3 box) box ≡ (1, 2) ∷ [])
+    × (list_in (based ▸ MakeClient second_client) second_client work ≡ (3, 9) ∷ [])
+    × (list_in (based ▸ MakeClient second_client) first_client work ≡ (1, 6) ∷ (2, 6) ∷ (3, 8) ∷ [])
+    × (list_in (based ▸ DropClient first_client ▸ MakeClient first_client) first_client work ≡ (3, 10) ∷ [])
+    × (list_in (based ▸ MakeMailbox third ▸ Pull 4 (notes_to third 1)) first_client third ≡ (2, 5) ∷ (3, 10) ∷ [])
+    × ((known (based ▸ DropMailbox work)).dropped ≡ third ∷ work ∷ [])
+    × (IsLegal (based ▸ DropMailbox work ▸ MakeMailbox third ▸ Pull 4 (notes_to third 1) ▸ Forget first_client third (2 ∷ [])))
+
+-- a pull goes past the last, not past the greatest number, and has 1 to 64 letters, each to a mailbox that lives
+abbrev pub BoundsOfPulls : Type 0
+BoundsOfPulls = (allows mixed_pull (Pull 7 (notes_to box 1) ∷ Pull 8 (notes_to box 1) ∷ Pull 9223372036854775807 (notes_to box 1) ∷ Pull 9223372036854775808 (notes_to box 1) ∷ []) ≡ false ∷ true ∷ true ∷ false ∷ [])
+    × (allows mixed_pull (Pull 8 [] ∷ Pull 8 (notes_to box 64) ∷ Pull 8 (notes_to box 65) ∷ Pull 8 ((box, note) ∷ (third, note) ∷ []) ∷ []) ≡ false ∷ true ∷ false ∷ false ∷ [])
+    × (allows enrolled (Pull 0 (notes_to box 1) ∷ Pull 1 (notes_to box 1) ∷ []) ≡ false ∷ true ∷ [])
+
+-- a client or a subscription less makes room for another, a deleted mailbox doesn't
+abbrev pub RoomAgain : Type 0
+RoomAgain = (passes (start full_record 9 ▸ DropClient (110 ∷ 48 ∷ [])) (MakeClient box ∷ []) ≡ None ∷ [])
+    × (passes (start full_record 9 ▸ DropClient (110 ∷ 48 ∷ []) ▸ MakeClient box) (MakeClient work ∷ []) ≡ Some limit.Clients ∷ [])
+    × (passes (start full_record 9 ▸ Unsubscribe (110 ∷ 48 ∷ [])) (Subscribe box ∷ []) ≡ None ∷ [])
+    × (passes (start (record empty_record { live = map (λ name. (name, new_mailbox [])) (names 64) }) 9 ▸ DropMailbox (110 ∷ 48 ∷ [])) (MakeMailbox (110 ∷ 48 ∷ []) ∷ MakeMailbox box ∷ []) ≡ None ∷ Some limit.Mailboxes ∷ [])
+
+-- a name that begins as another is another
+abbrev pub NamesApart : Type 0
+NamesApart = (allows (enrolled ▸ MakeMailbox (codes "inbo")) (DropMailbox (codes "inbo") ∷ DropMailbox box ∷ MakeMailbox (codes "inboxes") ∷ []) ≡ true ∷ false ∷ true ∷ [])
+    × ((known (enrolled ▸ MakeMailbox (codes "inbo") ▸ MakeMailbox (codes "inboxes") ▸ DropMailbox (codes "inbo"))).live ≡ box ∷ codes "inboxes" ∷ [])
+    × (living (enrolled ▸ MakeMailbox (codes "inboxes") ▸ Pull 1 ((box, note) ∷ (codes "inboxes", note) ∷ [])) box ≡ (1, 0) ∷ [])
+
+abbrev pub change : ℕ → ℕ → Listed
+change uid stamp = record { uid = uid; stamp = stamp }
+
+-- a record with a client born by entry 4, and a mailbox with three uids given, these living, and this list
+abbrev pub record_with : List ℕ → List Listed → AccountRecord
+record_with uids list = record empty_record { clients = (first_client, 4) ∷ []; live = (work, record { highest = 3; messages = map (λ uid. arrived uid note) uids; lists = (first_client, list) ∷ [] }) ∷ [] }
+
+-- no history before entry 9 has this record
+abbrev pub IsNoBase : AccountRecord → Type 0
+IsNoBase r = IsWellFormed r 9 → ⊥
+
+-- uids that don't rise or weren't given; lists out of order, with a uid twice, or with stamps from elsewhere; births and names that can't be
+abbrev pub NoBases : Type 0
+NoBases = IsLegal (start (record_with (1 ∷ 3 ∷ []) (change 3 4 ∷ change 2 5 ∷ change 1 8 ∷ [])) 9)
+    × IsNoBase (record_with (0 ∷ []) [])
+    × IsNoBase (record_with (4 ∷ []) [])
+    × IsNoBase (record_with (2 ∷ 1 ∷ []) [])
+    × IsNoBase (record_with [] (change 4 5 ∷ []))
+    × IsNoBase (record_with [] (change 1 3 ∷ []))
+    × IsNoBase (record_with [] (change 1 9 ∷ []))
+    × IsNoBase (record_with [] (change 2 5 ∷ change 1 5 ∷ []))
+    × IsNoBase (record_with [] (change 1 5 ∷ change 1 6 ∷ []))
+    × IsNoBase (record (record_with [] []) { clients = (first_client, 4) ∷ (second_client, 5) ∷ [] })
+    × IsNoBase (record empty_record { clients = (first_client, 9) ∷ [] })
+    × IsNoBase (record empty_record { clients = (first_client, 5) ∷ (second_client, 5) ∷ [] })
+    × IsNoBase (record empty_record { live = (box, new_mailbox []) ∷ []; dropped = (box, new_mailbox []) ∷ [] })
+    × IsNoBase (record empty_record { dropped = (work, record { highest = 1; messages = arrived 1 note ∷ []; lists = [] }) ∷ [] })
+    × IsNoBase (record empty_record { pulled = 9223372036854775808 })

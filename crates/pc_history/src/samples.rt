@@ -1,6 +1,6 @@
 //! Small histories, with what their answers must be. Each law is the contract of a function that does nothing.
 
-ghost use Rattle.pc_history.specs.Samples.{FlagBetween, NothingTwice, TouchedAgain, ExpungeIsSeen, MadeAgain, CopyIsNotDeleted, ClientAgain, ResetOfOne, SubscribedAgain, FirstLimit, SamplesAreLegal, RecordOfMadeAgain, LettersInOrder, ClientsInOrder};
+ghost use Rattle.pc_history.specs.Samples.{FlagBetween, NothingTwice, TouchedAgain, ExpungeIsSeen, MadeAgain, CopyIsNotDeleted, ClientAgain, ResetOfOne, SubscribedAgain, FirstLimit, SamplesAreLegal, RecordOfMadeAgain, LettersInOrder, ClientsInOrder, GoneStaysGone, CopyOfCopy, WhileGone, ResetAndGone, ResetsApart, BaseGoesOn, BoundsOfPulls, RoomAgain, NamesApart, NoBases};
 
 /// A client is shown five changes, a flag is set, and the client takes what it was shown: the flagged one stays listed.
 pub fn a_flag_between()
@@ -70,4 +70,54 @@ pub fn letters_in_order()
 /// Clients stand in the order in which they were made.
 pub fn clients_in_order()
     ensures { ClientsInOrder }
+{}
+
+/// A message that is gone isn't touched again.
+pub fn gone_stays_gone()
+    ensures { GoneStaysGone }
+{}
+
+/// A copy has the flags that its original had then, and goes its own way.
+pub fn copy_of_copy()
+    ensures { CopyOfCopy }
+{}
+
+/// A deleted mailbox keeps its lists, and made again it is the last.
+pub fn while_gone()
+    ensures { WhileGone }
+{}
+
+/// A reset lists anew what lives, and leaves what is gone.
+pub fn reset_and_gone()
+    ensures { ResetAndGone }
+{}
+
+/// A reset is of one client, or of one client and one mailbox.
+pub fn resets_apart()
+    ensures { ResetsApart }
+{}
+
+/// Entries behind a base go on from what it says, and it is canonical.
+pub fn base_goes_on()
+    ensures { BaseGoesOn }
+{}
+
+/// How far a pull may go, and how many letters it may have.
+pub fn bounds_of_pulls()
+    ensures { BoundsOfPulls }
+{}
+
+/// What makes room below a limit.
+pub fn room_again()
+    ensures { RoomAgain }
+{}
+
+/// Names are told apart by all their letters.
+pub fn names_apart()
+    ensures { NamesApart }
+{}
+
+/// Records that stand for no history.
+pub fn no_bases()
+    ensures { NoBases }
 {}
