@@ -1,0 +1,12 @@
+pub mod Collected
+pub mod Distinct
+pub mod Feeds
+pub mod Fields
+pub mod Firsts
+pub mod Items
+pub mod Named
+pub mod Openings
+pub mod Outcomes
+pub mod Places
+pub mod Samples
+pub mod Texts

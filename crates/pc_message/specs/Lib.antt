@@ -1,0 +1,5 @@
+pub mod Collecting
+pub mod Descriptor
+pub mod Header
+pub mod Message
+pub mod Recipients

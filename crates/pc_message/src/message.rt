@@ -1,0 +1,111 @@
+//! A message: a list of lines of bounded size.
+
+ghost use Rattle.std.specs.Prelude.{◌≡◌, ℕ, ◌+◌, ◌≤◌, IfOk, IfErr, IsTrue};
+ghost use Rattle.pc_base.specs.Line.{is_line};
+ghost use Rattle.std.specs.Option.{SomeIff};
+ghost use Rattle.std.specs.Result.{OkIff};
+ghost use Rattle.pc_message.specs.Message.{size_of, weight_of};
+
+use pc_base::{Line, LineFault, Lines, Memory};
+use std::alloc::Global;
+use std::marker::Model;
+
+/// Lines whose size, with two bytes for the end of each, is at most 65,536 bytes.
+#[derive(Drop)]
+pub struct Message {
+    lines: Lines,
+    bytes: u32,
+}
+
+impl Model for Message {
+    ghost use Rattle.std.specs.Prelude.{◌≡◌, ℕ, List, ◌≤◌};
+    ghost use Rattle.pc_message.specs.Message.{size_of};
+
+    ghost Value = { List (List ℕ) };
+
+    ghost view = { λ message. message.lines };
+
+    ghost invariant = { λ message. (message.bytes ≡ size_of message.lines) × (message.bytes ≤ 65536) };
+}
+
+impl Message {
+    /// The message of these lines. They are handed back exactly where their size passes 65,536 bytes.
+    pub fn of(lines: Lines) -> Result<Message, Lines>
+        ensures message { OkIff result (size_of lines ≤ 65536) lines }
+        ensures back { IfErr result (λ back. back ≡ lines) }
+    {
+        match size_within(lines.as_slice()) {
+            Some(bytes) => Ok(Message { lines, bytes }),
+            None => Err(lines),
+        }
+    }
+
+    /// The bytes of all lines, with two for the end of each.
+    pub fn size(&self) -> u32
+        ensures size { result ≡ size_of self.now }
+        ensures bound { result ≤ 65536 }
+    {
+        self.bytes
+    }
+
+    /// The lines, in order.
+    pub fn lines(&self) -> &Lines
+        ensures { result.now ≡ self.now }
+    {
+        &self.lines
+    }
+
+    /// What a kept message counts for: its size and 256 bytes more.
+    pub fn weight(&self) -> u32
+        ensures weight { result ≡ weight_of self.now }
+        ensures bound { result ≤ 65792 }
+    {
+        self.size() + 256
+    }
+
+    /// Another message with the same lines.
+    pub fn copy(&self, alloc: Global) -> Result<Message, Memory>
+        ensures { IfOk result (λ copy. copy ≡ self.now) }
+    {
+        Ok(Message {
+            lines: copy_of_lines(alloc, self.lines.as_slice())?,
+            bytes: self.bytes,
+        })
+    }
+}
+
+/// The size of these lines, where it is at most 65,536 bytes.
+fn size_within(lines: &[Line]) -> Option<u32>
+    ensures { SomeIff result (size_of lines.now ≤ 65536) (size_of lines.now) }
+{
+    let mut size: u32 = 0;
+    for line in lines {
+        size += line.bytes().len() as u32 + 2;
+        if size > 65_536 {
+            return None;
+        }
+    }
+    Some(size)
+}
+
+fn copy_of_lines(alloc: Global, lines: &[Line]) -> Result<Lines, Memory>
+    ensures { IfOk result (λ copy. copy ≡ lines.now) }
+{
+    let mut copy = Lines::new(alloc);
+    for line in lines {
+        copy.push(line_of(alloc, line.bytes())?)?;
+    }
+    Ok(copy)
+}
+
+/// A line of bytes that are known to be one.
+pub fn line_of(alloc: Global, bytes: &[u8]) -> Result<Line, Memory>
+    requires { IsTrue (is_line bytes.now) }
+    ensures { IfOk result (λ line. line ≡ bytes.now) }
+{
+    match Line::copy_of(alloc, bytes) {
+        Ok(line) => Ok(line),
+        Err(LineFault::Memory) => Err(Memory),
+        Err(_) => unreachable!(),
+    }
+}
