@@ -3,4 +3,8 @@ pub mod LineLemmas
 pub mod FeedLemmas
 pub mod WordLemmas
 pub mod ReaderLemmas
+pub mod BodyLemmas
+pub mod BodyFeedLemmas
+pub mod WritingLemmas
+mod BodySamples
 mod Samples

@@ -4,3 +4,5 @@ pub mod LineFeed
 pub mod Next
 pub mod Reader
 pub mod Reading
+pub mod Body
+pub mod BodyFeed
