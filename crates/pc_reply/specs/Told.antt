@@ -44,7 +44,7 @@ pub record FitsNone (bytes : List ℕ) (place : ℕ) : Type 0 where
   pub whole : List ℕ
   pub part : List ℕ
   pub split : bytes ≡ whole ++ part
-  pub place : place ≡ length whole
+  pub at : place ≡ length whole
   pub begins : BeginsReply whole
   pub line : IsOneLine part
   pub over : (has_feed part ≡ true) ⊎ (limit_behind whole < length (without_return part))
