@@ -86,6 +86,10 @@ pub record RowFits (row : MailboxRow) : Type 0 where
   pub live : row.live < 2 ^ 32
   pub highest : row.highest < 2 ^ 32
 
+-- the line is just the mailbox's
+abbrev pub IsRow : MailboxRow → List ℕ → Type 0
+IsRow row line = (line ≡ mailbox_line row) × RowFits row
+
 abbrev pub row_name : MailboxRow → List ℕ
 row_name row = row.name
 

@@ -7,7 +7,7 @@ ghost use Rattle.pc_reply.specs.Candidate.{refusal_numbered as numbered, plain_h
 ghost use Rattle.pc_reply.specs.declared.head.Head.{Head};
 ghost use Rattle.pc_reply.specs.declared.head.Head.TheVariants as head;
 
-use crate::text::Text;
+use crate::text::{Text, is_same};
 use pc_base::{LimitWord, Recipient, Refusal, ShortText, read_u32, read_u64};
 
 /// The first line of a reply.
@@ -61,8 +61,10 @@ impl Head {
         ensures head { IfSome result (λ head. IsHead head line.now) }
         ensures every { (head : Head) → IsHead head line.now → result ≡ Some head }
     {
-        let head = candidate(line)?;
-        if head.text().bytes() != line {
+        let Some(head) = candidate(line) else {
+            return None;
+        };
+        if !is_same(head.text().bytes(), line) {
             return None;
         }
         Some(head)

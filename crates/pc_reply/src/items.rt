@@ -1,6 +1,7 @@
 //! The lines of lists.
 
-ghost use Rattle.std.specs.Prelude.{◌≡◌, ◌++◌, IfOk, OnOk};
+ghost use Rattle.std.specs.Prelude.{◌≡◌, ◌≤◌, ◌++◌, false, length, IfOk, OnOk};
+ghost use Rattle.pc_base.specs.Line.{has_feed};
 ghost use Rattle.pc_reply.specs.Items.{change_lines, descriptor_lines, client_text, counted_text, mode_word};
 
 use crate::first_line::{counts_text, gone_text};
@@ -33,7 +34,9 @@ pub enum ItemFault {
 impl Mode {
     /// The word that names it.
     pub fn word(self) -> &'static [u8]
-        ensures { result.now ≡ mode_word self }
+        ensures value { result.now ≡ mode_word self }
+        ensures short { length result.now ≤ 11 }
+        ensures line { has_feed result.now ≡ false }
     {
         match self {
             Mode::Away => b"away",
@@ -79,7 +82,7 @@ pub fn push_descriptor(
 pub fn client_line(alloc: Global, name: &Name, birth: u64, mode: Mode) -> Result<Line, Memory>
     ensures { IfOk result (λ line. line ≡ client_text name.now birth mode) }
 {
-    Text::of(name.bytes())
+    Text::of(b"").with_name(name)
         .with(b" ")
         .with_number(birth)
         .with(b" ")
@@ -99,14 +102,14 @@ pub fn counted_line(alloc: Global, name: &Name, first: u32, second: u32) -> Resu
 pub fn name_line(alloc: Global, name: &Name) -> Result<Line, Memory>
     ensures { IfOk result (λ line. line ≡ name.now) }
 {
-    Text::of(name.bytes()).line(alloc)
+    Text::of(b"").with_name(name).line(alloc)
 }
 
 /// A name and two numbers.
 pub(crate) fn counted(name: &Name, first: u32, second: u32) -> Text
     ensures { result ≡ counted_text name.now first second }
 {
-    Text::of(name.bytes())
+    Text::of(b"").with_name(name)
         .with(b" ")
         .with_number(u64::from(first))
         .with(b" ")

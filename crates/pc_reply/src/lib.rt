@@ -2,8 +2,10 @@
 #![tactic(auto)]
 
 mod first_line;
+mod flags;
 mod head;
 mod items;
+mod parts;
 mod reading;
 mod reply;
 mod reply_feed;

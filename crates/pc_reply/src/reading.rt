@@ -1,14 +1,16 @@
 //! Lists, read just as they are written.
 
-ghost use Rattle.std.specs.Prelude.{◌≡◌, List, MatchResult};
+ghost use Rattle.std.specs.Prelude.{◌≡◌, List, MatchResult, IfSome};
 ghost use Rattle.pc_message.specs.declared.descriptor.Change.{Change};
-ghost use Rattle.pc_reply.specs.Items.{AreChangeLines, AreMailboxLines};
+ghost use Rattle.pc_reply.specs.Items.{AreChangeLines, AreMailboxLines, MailboxRow, IsRow};
 ghost use Rattle.pc_reply.specs.Fault.{ReadsItems};
 ghost use Rattle.pc_reply.specs.declared.items.ItemFault.TheVariants as fault;
 
 use crate::first_line::FirstLine;
 use crate::items::{ItemFault, counted, copy};
-use pc_base::{Line, Lines, Name, Names, read_u32};
+use crate::text::is_same;
+use crate::parts::first_number;
+use pc_base::{Line, Lines, Name, Names};
 use pc_message::{Change, Changes, Descriptor};
 use pc_wire::next_word;
 use std::alloc::Global;
@@ -137,13 +139,23 @@ fn descriptor(
 
 /// The name of the mailbox that a line tells of.
 fn read_row(line: &[u8]) -> Option<Name>
+    ensures some { IfSome result (λ name. (row : MailboxRow) × ((name ≡ row.name) × IsRow row line.now)) }
+    ensures every { (row : MailboxRow) → IsRow row line.now → result ≡ Some row.name }
 {
-    let (name, rest) = next_word(line)?;
-    let (live, rest) = next_word(rest)?;
-    let (highest, _) = next_word(rest)?;
-    let name = Name::read(name)?;
-    let written = counted(&name, read_u32(live)?, read_u32(highest)?).finished();
-    if written.bytes() != line {
+    let Some((word, rest)) = next_word(line) else {
+        return None;
+    };
+    let Some(name) = Name::read(word) else {
+        return None;
+    };
+    let Some((live, rest)) = first_number(rest) else {
+        return None;
+    };
+    let Some((highest, _)) = first_number(rest) else {
+        return None;
+    };
+    let text = counted(&name, live, highest).finished();
+    if !is_same(text.bytes(), line) {
         return None;
     }
     Some(name)

@@ -1,11 +1,11 @@
 //! The text of a line while it is made.
 
-ghost use Rattle.std.specs.Prelude.{◌≡◌, ◌+◌, ◌≤◌, ◌++◌, false, length, decimal, IfOk};
+ghost use Rattle.std.specs.Prelude.{◌≡◌, ◌+◌, ◌≤◌, ◌++◌, false, length, decimal, IfOk, IsTrue, ◌↔◌};
 ghost use Rattle.pc_base.specs.Line.{has_feed};
 
 use arrayvec::ArrayVec;
 use itoa::Buffer;
-use pc_base::{Line, LineFault, Memory, ShortText};
+use pc_base::{Line, LineFault, Memory, Name, ShortText};
 use std::alloc::Global;
 use std::marker::Model;
 
@@ -16,18 +16,23 @@ pub struct Text {
 }
 
 impl Model for Text {
-    ghost use Rattle.std.specs.Prelude.{ℕ, List};
+    ghost use Rattle.std.specs.Prelude.{◌≡◌, ℕ, List, false};
+    ghost use Rattle.pc_base.specs.Line.{has_feed};
 
     ghost Value = { List ℕ };
 
     ghost view = { λ t. t.bytes.items };
+
+    ghost invariant = { λ t. has_feed t.bytes.items ≡ false };
 }
 
 impl Text {
     /// These bytes.
     pub fn of(bytes: &[u8]) -> Text
-        requires { length bytes.now ≤ 96 }
-        ensures { result ≡ bytes.now }
+        requires room { length bytes.now ≤ 96 }
+        requires line { has_feed bytes.now ≡ false }
+        ensures value { result ≡ bytes.now }
+        ensures short { length result ≡ length bytes.now }
     {
         let mut text = ArrayVec::new();
         text.try_extend_from_slice(bytes).unwrap();
@@ -36,8 +41,10 @@ impl Text {
 
     /// With these bytes behind it.
     pub fn with(mut self, bytes: &[u8]) -> Text
-        requires { length self + length bytes.now ≤ 96 }
-        ensures { result ≡ self ++ bytes.now }
+        requires room { length self + length bytes.now ≤ 96 }
+        requires line { has_feed bytes.now ≡ false }
+        ensures value { result ≡ self ++ bytes.now }
+        ensures short { length result ≡ length self + length bytes.now }
     {
         self.bytes.try_extend_from_slice(bytes).unwrap();
         self
@@ -53,6 +60,15 @@ impl Text {
         self.with(digits.format(number).as_bytes())
     }
 
+    /// With a name behind it.
+    pub fn with_name(self, name: &Name) -> Text
+        requires { length self + 32 ≤ 96 }
+        ensures value { result ≡ self ++ name.now }
+        ensures short { length result ≤ length self + 32 }
+    {
+        self.with(name.bytes())
+    }
+
     /// The text.
     pub fn finished(&self) -> ShortText<96>
         ensures value { result ≡ self.now }
@@ -63,7 +79,6 @@ impl Text {
 
     /// The text as a line.
     pub fn line(&self, alloc: Global) -> Result<Line, Memory>
-        requires { has_feed self.now ≡ false }
         ensures { IfOk result (λ line. line ≡ self.now) }
     {
         match Line::copy_of(alloc, &self.bytes) {
@@ -72,4 +87,11 @@ impl Text {
             Err(_) => unreachable!(),
         }
     }
+}
+
+/// Whether the bytes are the same.
+pub fn is_same(one: &[u8], other: &[u8]) -> bool
+    ensures { IsTrue result ↔ (one.now ≡ other.now) }
+{
+    one == other
 }
