@@ -3,4 +3,6 @@ pub mod TextLemmas
 pub mod FlagLemmas
 pub mod PartLemmas
 pub mod WordTexts
+pub mod FirstLines
+pub mod ReplyLemmas
 mod Samples
