@@ -5,4 +5,5 @@ pub mod PartLemmas
 pub mod WordTexts
 pub mod FirstLines
 pub mod ReplyLemmas
+pub mod StepLemmas
 mod Samples

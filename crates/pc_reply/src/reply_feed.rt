@@ -80,7 +80,9 @@ impl Model for ReplyFeed {
 
     ghost view = { λ f. record { progress = progress_of f.stage; place = f.place; line = f.line } };
 
-    ghost invariant = { λ f. IsCounted f.stage f.place };
+    ghost use Rattle.std.specs.Prelude.{◌≤◌};
+
+    ghost invariant = { λ f. (f.line.limit ≤ 1000) × IsCounted f.stage f.place };
 }
 
 impl ReplyFeed {
