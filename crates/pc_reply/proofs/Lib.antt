@@ -6,4 +6,5 @@ pub mod WordTexts
 pub mod FirstLines
 pub mod ReplyLemmas
 pub mod StepLemmas
+pub mod ItemLemmas
 mod Samples

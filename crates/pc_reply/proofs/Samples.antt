@@ -9,8 +9,8 @@ use Rattle.pc_reply.specs.declared.head.Head.TheVariants as head
 use Rattle.pc_reply.specs.declared.items.Mode.TheVariants.{Batch}
 use Rattle.pc_reply.specs.Head.{head_text}
 use Rattle.pc_reply.specs.Reply.{IsReply, written_reply}
-use Rattle.pc_reply.specs.Items.{flag_digits, change_lines, are_apart, client_text, counted_text, gone_text}
-use Rattle.std.proofs.lemmas.Fmt.{decimal_digit}
+use Rattle.pc_reply.specs.Items.{flag_digits, change_lines, client_text, counted_text, gone_text}
+use Rattle.pc_reply.specs.Lists.{are_apart}
 use Rattle.pc_base.specs.Refusal.{head_of}
 
 list_head : head_text head.ListFollows ≡ codes "201 List follows"

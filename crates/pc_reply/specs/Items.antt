@@ -6,6 +6,7 @@ use Rattle.pc_base.specs.Name.{is_name}
 use Rattle.pc_message.specs.declared.descriptor.Descriptor.{Descriptor}
 use Rattle.pc_message.specs.declared.descriptor.Change.{Change}
 use Rattle.pc_message.specs.declared.descriptor.Change.TheVariants.{Present, Expunged}
+use Rattle.pc_reply.specs.Lists.{AreItems}
 use Rattle.pc_reply.specs.declared.items.Mode.{Mode}
 use Rattle.pc_reply.specs.declared.items.Mode.TheVariants.{Away, Interactive, Batch}
 
@@ -57,16 +58,9 @@ abbrev pub ChangeFits : Change → Type 0
 ChangeFits (Present descriptor) = DescriptorFits descriptor
 ChangeFits (Expunged uid) = uid < 2 ^ 32
 
--- no item of a list is the same as a later one
-abbrev pub are_apart : {T : Type 0} → (T → T → Bool) → List T → Bool
-are_apart same [] = true
-are_apart same (item ∷ items) = not (list_any (same item) items) && are_apart same items
-
 -- these are the lines of the changes, no two of one uid
-pub record AreChangeLines (changes : List Change) (lines : List (List ℕ)) : Type 0 where
-  pub spelled : lines ≡ flat_map change_lines changes
-  pub fit : All ChangeFits changes
-  pub apart : IsTrue (are_apart ◌==◌ (map uid_of changes))
+abbrev pub AreChangeLines : List Change → List (List ℕ) → Type 0
+AreChangeLines changes lines = AreItems change_lines ChangeFits ◌==◌ uid_of changes lines
 
 -- a name and two numbers, as of a mailbox (live, highest) or a subscription (mark, highest)
 abbrev pub counted_text : List ℕ → ℕ → ℕ → List ℕ
@@ -93,13 +87,18 @@ IsRow row line = (line ≡ mailbox_line row) × RowFits row
 abbrev pub row_name : MailboxRow → List ℕ
 row_name row = row.name
 
--- these are the lines of mailboxes with these names, no two alike
-pub record AreMailboxLines (names : List (List ℕ)) (lines : List (List ℕ)) : Type 0 where
-  pub rows : List MailboxRow
-  pub named : names ≡ map row_name rows
-  pub spelled : lines ≡ map mailbox_line rows
-  pub fit : All RowFits rows
-  pub apart : IsTrue (are_apart bytes_eq names)
+-- a mailbox has one line
+abbrev pub row_lines : MailboxRow → List (List ℕ)
+row_lines row = mailbox_line row ∷ []
+
+-- these are the lines of mailboxes, no two of one name
+abbrev pub AreRows : List MailboxRow → List (List ℕ) → Type 0
+AreRows rows lines = AreItems row_lines RowFits bytes_eq row_name rows lines
+
+-- these are the lines of mailboxes with these names
+abbrev pub AreMailboxLines : List (List ℕ) → List (List ℕ) → Type 0
+AreMailboxLines names lines =
+    (rows : List MailboxRow) × ((names ≡ map row_name rows) × AreRows rows lines)
 
 -- how a client is used
 abbrev pub mode_word : Mode → List ℕ
