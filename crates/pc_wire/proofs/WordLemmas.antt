@@ -1,9 +1,9 @@
 -- Words: where they begin and end.
-use Rattle.std.proofs.Common.{◌≡◌, ℕ, ◌+◌, ◌<◌, Bool, true, false, cond, not, List, [], ◌∷◌, length, take, drop, sym, refl, ap, ◌∙◌, arith, one-add}
-use Rattle.std.specs.List.{onto_first, position_or_len}
-use Rattle.std.proofs.lemmas.Bool.{false≢true}
+use Rattle.std.proofs.Common.{◌≡◌, ℕ, ◌+◌, ◌<◌, Bool, true, false, cond, not, List, [], ◌∷◌, ◌++◌, length, take, drop, sym, refl, ap, ◌∙◌, arith, one-add}
+use Rattle.std.specs.List.{list_any, onto_first, position_or_len}
+use Rattle.std.proofs.lemmas.Bool.{or_parts, false≢true}
 use Rattle.std.proofs.lemmas.List.{nil_from_length}
-use Rattle.pc_wire.specs.Words.{is_space, is_between, words_of, without_spaces, from_space, after_word}
+use Rattle.pc_wire.specs.Words.{is_space, is_between, with_byte, words_of, without_spaces, from_space, after_word}
 
 -- the text before its first space
 pub until_space : List ℕ → List ℕ
@@ -79,3 +79,15 @@ words_of-cut text left word rest place e some at front back =
       sym (words_of-without_spaces text) ∙ ap words_of (sym e) ∙ words_of-first left begins ∙ rw (← until, ← from) refl,
       from ∙ ap from_space e,
     )
+
+-- a word in front is the first word, where no word goes on behind it
+pub words_of-word : (word rest : List ℕ) → list_any is_space word ≡ false → 0 < length word → is_between rest ≡ true → words_of (word ++ rest) ≡ word ∷ words_of rest
+words_of-word [] rest apart some ends = absurd (omega (arith, some))
+words_of-word (byte ∷ []) rest apart some ends =
+    let parts = or_parts (is_space byte) false apart in
+    rw (parts.0, ends)
+words_of-word (byte ∷ next ∷ bytes) rest apart some ends =
+    let parts = or_parts (is_space byte) (list_any is_space (next ∷ bytes)) apart in
+    let others = or_parts (is_space next) (list_any is_space bytes) parts.1 in
+    let behind : words_of ((next ∷ bytes) ++ rest) ≡ (next ∷ bytes) ∷ words_of rest = words_of-word (next ∷ bytes) rest parts.1 (omega arith) ends in
+    ap (with_byte byte (is_space next)) behind ∙ rw (parts.0, others.0)

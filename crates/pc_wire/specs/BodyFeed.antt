@@ -1,5 +1,5 @@
 -- What a body feed holds, and how lines change it.
-use Rattle.std.specs.Prelude.{◌≡◌, ℕ, Bool, false, ◌==◌, ◌&&◌, nat_le, List, [], ◌∷◌, ◌++◌, length, map, Option, Some, None, is_none, Result, Ok, Err, IsTrue, MatchBool, if◌then◌else◌}
+use Rattle.std.specs.Prelude.{◌≡◌, ℕ, Bool, true, false, ◌==◌, ◌&&◌, nat_le, List, [], ◌∷◌, ◌++◌, length, map, Option, Some, None, is_none, Result, Ok, Err, IsTrue, MatchBool, if◌then◌else◌}
 use Rattle.std.specs.List.{AllZip, list_any, list_all}
 use Rattle.pc_base.specs.Line.{is_line}
 use Rattle.pc_base.specs.declared.failure.Memory.{Memory}
@@ -129,6 +129,14 @@ Joins old sent new (Err memory) = (new ≡ record old { so_far = Err memory }) �
 -- the dot is answered, and the next line begins a new body
 abbrev pub Ends : BodyState → BodyState → Result BodyStep Memory → Type 0
 Ends old new result = (result ≡ old.so_far) × (new ≡ after old.most_bytes old.most_lines [])
+
+-- the dot will be refused, whatever lines come before it
+abbrev pub is_refused : Result BodyStep Memory → Bool
+is_refused (Ok LineTooLong) = true
+is_refused (Ok TooLarge) = true
+is_refused (Ok More) = false
+is_refused (Ok (Whole lines)) = false
+is_refused (Err memory) = false
 
 -- a call of `line`
 abbrev pub TakesLine : BodyState → Sent → BodyState → Result BodyStep Memory → Type 0

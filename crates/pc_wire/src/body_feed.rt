@@ -3,7 +3,7 @@
 ghost use Rattle.std.specs.Prelude.{◌≡◌, ◌≢◌, [], ◌∷◌, ◌++◌, ◌&&◌, nat_le, IfOk, IsTrue};
 ghost use Rattle.std.specs.Option.{option_copied};
 ghost use Rattle.pc_base.specs.Line.{is_line as fits};
-ghost use Rattle.pc_wire.specs.BodyFeed.{after, sent_of, content_of, is_dot as is_single, joined, Joins, Ends, TakesLine};
+ghost use Rattle.pc_wire.specs.BodyFeed.{after, sent_of, content_of, is_dot as is_single, joined, Joins, Ends, TakesLine, is_refused as refused};
 
 use crate::line_feed::Next;
 use pc_base::{Line, Lines, Memory};
@@ -76,6 +76,17 @@ impl BodyFeed {
             return self.finish();
         }
         self.join(line)
+    }
+
+    /// Whether some line was past its limit or the lines pass one of the two numbers, so that the dot
+    /// will be refused whatever comes before it.
+    pub fn is_refused(&self) -> bool
+        ensures { result ≡ refused self.now.so_far }
+    {
+        matches!(
+            &self.so_far,
+            Ok(BodyStep::LineTooLong) | Ok(BodyStep::TooLarge)
+        )
     }
 
     /// The answer to the dot.

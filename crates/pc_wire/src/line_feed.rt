@@ -110,6 +110,14 @@ impl LineFeed {
         within(self.limit, self.text.as_slice())
     }
 
+    /// How many bytes came of the line, without its LF; at most two past the limit are counted.
+    pub fn count(&self) -> usize
+        ensures value { result ≡ length self.now.text }
+        ensures bound { result ≤ 1002 }
+    {
+        self.text.len()
+    }
+
     /// Adds bytes to the line, as far as there is room.
     fn keep(&mut self, bytes: &[u8])
         requires { has_feed bytes.now ≡ false }

@@ -1,0 +1,10 @@
+pub mod HeadLemmas
+pub mod TextLemmas
+pub mod FlagLemmas
+pub mod PartLemmas
+pub mod WordTexts
+pub mod FirstLines
+pub mod ReplyLemmas
+pub mod StepLemmas
+pub mod ItemLemmas
+mod Samples

@@ -1,0 +1,9 @@
+pub mod Head
+pub mod Candidate
+pub mod Reply
+pub mod Lists
+pub mod Items
+pub mod FirstLine
+pub mod ReplyFeed
+pub mod Steps
+pub mod Told
