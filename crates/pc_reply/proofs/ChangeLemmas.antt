@@ -1,7 +1,7 @@
 -- Changes and their lines: one change a front, and the line at which none goes on.
-use Rattle.std.proofs.Common.{◌≡◌, ℕ, zero, suc, ◌+◌, ◌-◌, ◌<◌, ◌≤◌, ◌^◌, ◌==◌, Bool, true, false, ◌||◌, min, All, List, [], ◌∷◌, ◌++◌, length, map, take, drop, get_or, replicate, refl, sym, ap, subst, ◌∙◌, arith, append_assoc, append-nil, length-append, one-add, inl, inr}
+use Rattle.std.proofs.Common.{◌≡◌, ℕ, zero, suc, ◌+◌, ◌-◌, ◌<◌, ◌≤◌, ◌^◌, ◌==◌, Bool, true, false, ◌||◌, min, All, List, [], ◌∷◌, ◌++◌, length, map, take, drop, get_or, replicate, refl, sym, ap, subst, ◌∙◌, arith, append_assoc, append-nil, length-append, one-add, inl, inr, Ok, Err}
 use Rattle.std.specs.List.{list_any}
-use Rattle.std.proofs.lemmas.List.{get_or-take, get_or_default, length-take, length-take-le, length-replicate, take-append-drop}
+use Rattle.std.proofs.lemmas.List.{get_or-take, get_or_default, length-take, length-take-le, length-replicate, take_all}
 use Rattle.std.proofs.lemmas.Bool.{cases_lt, false≢true}
 use Rattle.std.proofs.Math.ListN.{get_or-append}
 use Rattle.std.proofs.Math.Seq.{get_or-append_right}
@@ -11,7 +11,9 @@ use Rattle.pc_message.specs.declared.descriptor.Change.TheVariants.{Present, Exp
 use Rattle.pc_reply.specs.Lists.{IsNew, IsBadItem}
 use Rattle.pc_reply.specs.Items.{counts_text, gone_text, descriptor_lines, change_lines, uid_of, IsShort, DescriptorFits, ChangeFits}
 use Rattle.pc_reply.specs.FirstLine.{first_text, FirstFits, IsFirst, first_uid}
-use Rattle.pc_reply.specs.Changes.{HasShort, descriptor_with}
+use Rattle.pc_reply.specs.Changes.{HasShort, ReadsItem, ReadsFirst}
+use Rattle.pc_reply.specs.declared.items.ItemFault.{ItemFault}
+use Rattle.pc_reply.specs.declared.items.ItemFault.TheVariants.{Bad, Memory}
 use Rattle.pc_reply.specs.declared.first_line.FirstLine.{FirstLine}
 use Rattle.pc_reply.specs.declared.first_line.FirstLine.TheVariants.{Gone, Counts}
 use Rattle.pc_reply.proofs.FirstLines.{one_first}
@@ -196,3 +198,24 @@ bad_text_at known line uid flags bytes lines texts count is new has below = reco
 pub bad_text : (known : ℕ → Bool) (line : List ℕ) (uid flags bytes lines : ℕ) (texts : List (List ℕ)) (count : ℕ) → IsFirst (Counts uid flags bytes lines) line → known uid ≡ false → HasShort texts count → count < 4 → IsBadItem change_lines ChangeFits uid_of known (line ∷ texts) (1 + count)
 bad_text known line uid flags bytes lines texts count is new has below =
     subst (λ (at : ℕ). IsBadItem change_lines ChangeFits uid_of known (line ∷ texts) at) (sym (one-add count)) (bad_text_at known line uid flags bytes lines texts count is new has below)
+
+-- some lines are the first and the others
+pub first_and_others : (lines : List (List ℕ)) (line bytes : List ℕ) → 0 < length lines → line ≡ get_or lines 0 line → bytes ≡ line → lines ≡ bytes ∷ take (length lines - 1) (drop 1 lines)
+first_and_others [] line bytes some is same = absurd (omega (arith, some))
+first_and_others (first ∷ others) line bytes some is same =
+    let all : take (length (first ∷ others) - 1) others ≡ others = take_all (length (first ∷ others) - 1) others (omega arith) in
+    ap (λ one. one ∷ others) (sym (same ∙ is)) ∙ ap (λ more. bytes ∷ more) (sym all)
+
+-- where no first line is read no change is
+pub read_fault : (known : ℕ → Bool) (lines texts : List (List ℕ)) (line : List ℕ) (e : ItemFault) → lines ≡ line ∷ texts → ReadsFirst known line (Err e) → ReadsItem change_lines ChangeFits uid_of known lines (Err e)
+read_fault known lines texts line (Bad at) is reads =
+    let here : IsBadItem change_lines ChangeFits uid_of known (line ∷ texts) at = subst (λ (n : ℕ). IsBadItem change_lines ChangeFits uid_of known (line ∷ texts) n) (sym reads.0) (bad_first known line texts reads.1) in
+    subst (λ (all : List (List ℕ)). IsBadItem change_lines ChangeFits uid_of known all at) (sym is) here
+read_fault known lines texts line Memory is reads = tt
+
+-- where a text is missing or too long none is
+pub text_fault : (known : ℕ → Bool) (lines texts : List (List ℕ)) (line : List ℕ) (first : FirstLine) (uid flags bytes count_lines count : ℕ) → lines ≡ line ∷ texts → first ≡ Counts uid flags bytes count_lines → ReadsFirst known line (Ok first) → HasShort texts count → count < 4 → IsBadItem change_lines ChangeFits uid_of known lines (1 + count)
+text_fault known lines texts line first uid flags bytes count_lines count is counts reads has below =
+    let P : FirstLine → Type 0 = λ first. ReadsFirst known line (Ok first) in
+    let read = subst P counts reads in
+    subst (λ (all : List (List ℕ)). IsBadItem change_lines ChangeFits uid_of known all (1 + count)) (sym is) (bad_text known line uid flags bytes count_lines texts count read.0 read.1 has below)
