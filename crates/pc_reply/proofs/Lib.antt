@@ -7,4 +7,5 @@ pub mod FirstLines
 pub mod ReplyLemmas
 pub mod StepLemmas
 pub mod ItemLemmas
+pub mod ChangeLemmas
 mod Samples

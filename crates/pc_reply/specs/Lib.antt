@@ -1,6 +1,7 @@
 pub mod Head
 pub mod Candidate
 pub mod Reply
+pub mod Changes
 pub mod Lists
 pub mod Items
 pub mod FirstLine

@@ -1,16 +1,20 @@
 //! Lists, read just as they are written.
 
-ghost use Rattle.std.specs.Prelude.{◌≡◌, List, MatchResult, IfSome};
+ghost use Rattle.std.specs.Prelude.{◌≡◌, ℕ, ◌<◌, ◌≤◌, List, length, IfOk, IfSome, MatchResult};
+ghost use Rattle.std.specs.BTreeSet.{contains};
+ghost use Rattle.std.specs.Ordering.{nat_cmp};
 ghost use Rattle.pc_message.specs.declared.descriptor.Change.{Change};
-ghost use Rattle.pc_reply.specs.Items.{AreChangeLines, AreMailboxLines, MailboxRow, IsRow};
-ghost use Rattle.pc_reply.specs.Fault.{ReadsItems};
+ghost use Rattle.pc_reply.specs.Lists.{ReadsItems};
+ghost use Rattle.pc_reply.specs.Items.{AreChangeLines, AreMailboxLines, MailboxRow, IsRow, change_lines, ChangeFits, uid_of};
+ghost use Rattle.pc_reply.specs.FirstLine.{first_uid};
+ghost use Rattle.pc_reply.specs.Changes.{ReadsItem, ReadsFirst, Learns, HasShort, descriptor_with};
 ghost use Rattle.pc_reply.specs.declared.items.ItemFault.TheVariants as fault;
 
 use crate::first_line::FirstLine;
 use crate::items::{ItemFault, counted, copy};
 use crate::text::is_same;
 use crate::parts::first_number;
-use pc_base::{Line, Lines, Name, Names};
+use pc_base::{Line, Lines, Memory, Name, Names};
 use pc_message::{Change, Changes, Descriptor};
 use pc_wire::next_word;
 use std::alloc::Global;
@@ -19,6 +23,9 @@ use std::collections::BTreeSet;
 /// The changes that the lines tell: five lines of a message that is there, one of a message that is
 /// gone, and no uid twice.
 pub fn read_changes(alloc: Global, lines: &Lines) -> Result<Changes, ItemFault>
+    ensures items { ReadsItems AreChangeLines lines.now result }
+    ensures every { (changes : List Change) → AreChangeLines changes lines.now →
+        MatchResult result (λ read. read ≡ changes) (λ other. other ≡ fault.Memory) }
 {
     let all = lines.as_slice();
     let mut changes = Changes::new(alloc);
@@ -44,6 +51,9 @@ pub fn read_changes(alloc: Global, lines: &Lines) -> Result<Changes, ItemFault>
 
 /// The names of the mailboxes that the lines tell, one line each, and no name twice.
 pub fn read_mailboxes(alloc: Global, lines: &Lines) -> Result<Names, ItemFault>
+    ensures items { ReadsItems AreMailboxLines lines.now result }
+    ensures every { (names : List (List ℕ)) → AreMailboxLines names lines.now →
+        MatchResult result (λ read. read ≡ names) (λ other. other ≡ fault.Memory) }
 {
     let mut names = Names::new(alloc);
     let mut known = BTreeSet::new(alloc);
@@ -64,25 +74,18 @@ pub fn read_mailboxes(alloc: Global, lines: &Lines) -> Result<Names, ItemFault>
 }
 
 /// The change at the front of the lines and how many of them it takes. A fault's line is counted from
-/// the first of them.
+/// the first of them. After `Err` the uids aren't used again.
 fn read_change(
     alloc: Global,
     uids: &mut BTreeSet<u32>,
     lines: &[Line],
 ) -> Result<(Change, usize), ItemFault>
+    requires { 0 < length lines.now }
+    ensures item { ReadsItem change_lines ChangeFits uid_of (contains nat_cmp uids.old) lines.now result }
+    ensures known { IfOk result (λ read. Learns (contains nat_cmp uids.old) (contains nat_cmp uids.new) (uid_of read.0)) }
 {
-    let [first, more @ ..] = lines else {
-        return Err(ItemFault::Bad { line: 0 });
-    };
-    let Some(first) = FirstLine::read(first.bytes()) else {
-        return Err(ItemFault::Bad { line: 0 });
-    };
-    match uids.insert(first.uid()) {
-        Ok(true) => {}
-        Ok(false) => return Err(ItemFault::Bad { line: 0 }),
-        Err(_) => return Err(ItemFault::Memory),
-    }
-    match first {
+    let (first, texts) = (&lines[0], &lines[1..]);
+    match read_first(uids, first.bytes())? {
         FirstLine::Gone(uid) => Ok((Change::Expunged(uid), 1)),
         FirstLine::Counts {
             uid,
@@ -90,11 +93,11 @@ fn read_change(
             bytes,
             lines,
         } => {
-            let short = short_texts(more);
+            let short = short_texts(texts);
             if short < 4 {
                 return Err(ItemFault::Bad { line: 1 + short });
             }
-            let Ok(descriptor) = descriptor(alloc, uid, flags, bytes, lines, more) else {
+            let Ok(descriptor) = descriptor(alloc, uid, flags, bytes, lines, texts) else {
                 return Err(ItemFault::Memory);
             };
             Ok((Change::Present(descriptor), 5))
@@ -102,14 +105,32 @@ fn read_change(
     }
 }
 
-/// How many texts of at most 128 bytes are among the first four lines before another or the end.
-fn short_texts(lines: &[Line]) -> usize
+/// The first line of a change with a uid that isn't known.
+fn read_first(uids: &mut BTreeSet<u32>, line: &[u8]) -> Result<FirstLine, ItemFault>
+    ensures first { ReadsFirst (contains nat_cmp uids.old) line.now result }
+    ensures known { IfOk result (λ first. Learns (contains nat_cmp uids.old) (contains nat_cmp uids.new) (first_uid first)) }
 {
-    lines
-        .iter()
-        .take(4)
-        .take_while(|line| line.bytes().len() <= 128)
-        .count()
+    let Some(first) = FirstLine::read(line) else {
+        return Err(ItemFault::Bad { line: 0 });
+    };
+    match uids.insert(first.uid()) {
+        Ok(true) => Ok(first),
+        Ok(false) => Err(ItemFault::Bad { line: 0 }),
+        Err(_) => Err(ItemFault::Memory),
+    }
+}
+
+/// How many of the first four lines have at most 128 bytes, up to the first that has more.
+fn short_texts(lines: &[Line]) -> usize
+    ensures { HasShort lines.now result }
+{
+    let front = &lines[..4usize.min(lines.len())];
+    for (place, line) in front.iter().enumerate() {
+        if line.bytes().len() > 128 {
+            return place;
+        }
+    }
+    front.len()
 }
 
 /// The descriptor of these counts and the first four lines.
@@ -120,20 +141,19 @@ fn descriptor(
     bytes: u32,
     lines: u32,
     texts: &[Line],
-) -> Result<Descriptor, pc_base::Memory>
+) -> Result<Descriptor, Memory>
+    requires { 4 ≤ length texts.now }
+    ensures { IfOk result (λ descriptor. descriptor ≡ descriptor_with uid flags bytes lines texts.now) }
 {
-    let [date, from, to, subject, ..] = texts else {
-        return Err(pc_base::Memory);
-    };
     Ok(Descriptor {
         uid,
         flags,
         bytes,
         lines,
-        date: copy(alloc, date)?,
-        from: copy(alloc, from)?,
-        to: copy(alloc, to)?,
-        subject: copy(alloc, subject)?,
+        date: copy(alloc, &texts[0])?,
+        from: copy(alloc, &texts[1])?,
+        to: copy(alloc, &texts[2])?,
+        subject: copy(alloc, &texts[3])?,
     })
 }
 
