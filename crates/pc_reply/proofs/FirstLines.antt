@@ -1,6 +1,6 @@
 -- A line is at most one first line of a change.
 use Rattle.std.proofs.Common.{◌≡◌, ℕ, ◌^◌, ◌<◌, Some, codes, decimal, List, [], ◌∷◌, sym, ap, ◌∙◌, arith}
-use Rattle.pc_base.proofs.Decimal.{decimal_differ}
+use Rattle.pc_wire.proofs.DecimalLemmas.{decimal_differ}
 use Rattle.pc_reply.specs.Items.{flag_digits}
 use Rattle.pc_reply.specs.FirstLine.{IsFirst, flags_shown}
 use Rattle.pc_reply.specs.declared.first_line.FirstLine.{FirstLine}

@@ -13,7 +13,7 @@ use Rattle.pc_base.specs.declared.refusal.Refusal.{Refusal}
 use Rattle.pc_base.specs.declared.refusal.Refusal.TheVariants as refused
 use Rattle.pc_base.specs.declared.refusal.LimitWord.{LimitWord}
 use Rattle.pc_base.specs.declared.refusal.LimitWord.TheVariants as limit
-use Rattle.pc_base.proofs.Decimal.{decimal_digits, is_number-decimal}
+use Rattle.pc_wire.proofs.DecimalLemmas.{decimal_digits, is_number-decimal}
 use Rattle.pc_reply.specs.Head.{head_text, HeadFits, RefusalFits, IsHead}
 use Rattle.pc_reply.specs.Candidate.{limits, limit_named, number_of, candidate_of}
 use Rattle.pc_reply.specs.declared.head.Head.{Head}

@@ -1,7 +1,7 @@
 -- The words of a list's line: what they are read as.
 use Rattle.std.proofs.Common.{◌≡◌, ℕ, ◌+◌, ◌^◌, ◌<◌, Bool, true, false, IsTrue, decimal, List, [], ◌∷◌, ◌++◌, length, sym, ap, subst, ◌∙◌, arith}
 use Rattle.pc_base.specs.Number.{is_number, decimal_value}
-use Rattle.pc_base.proofs.Decimal.{decimal_digits, is_number-decimal}
+use Rattle.pc_wire.proofs.DecimalLemmas.{decimal_digits, is_number-decimal}
 
 -- the first of two equal lists of words
 pub first_same : (word other : List ℕ) (rest others words : List (List ℕ)) → words ≡ word ∷ rest → words ≡ other ∷ others → (word ≡ other) × (rest ≡ others)

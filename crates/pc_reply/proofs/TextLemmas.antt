@@ -5,7 +5,7 @@ use Rattle.std.proofs.lemmas.Bool.{and_parts, false≢true}
 use Rattle.std.proofs.lemmas.Bool.Decides.{nat_tests}
 use Rattle.pc_base.specs.Name.{is_letter, is_name_byte, is_name}
 use Rattle.pc_base.specs.Number.{is_digit}
-use Rattle.pc_base.proofs.Decimal.{decimal_digits}
+use Rattle.pc_wire.proofs.DecimalLemmas.{decimal_digits}
 use Rattle.pc_wire.specs.Lines.{is_feed, has_feed}
 
 all_open : (test : ℕ → Bool) → ((byte : ℕ) → test byte ≡ true → is_feed byte ≡ false) → (bytes : List ℕ) → list_all test bytes ≡ true → has_feed bytes ≡ false

@@ -5,7 +5,7 @@ use Rattle.std.proofs.lemmas.Bool.{and_parts, false≢true}
 use Rattle.std.proofs.lemmas.Bool.Decides.{nat_tests}
 use Rattle.pc_base.specs.Name.{is_letter, is_name_byte, is_name}
 use Rattle.pc_base.specs.Number.{is_digit}
-use Rattle.pc_base.proofs.Decimal.{decimal_digits}
+use Rattle.pc_wire.proofs.DecimalLemmas.{decimal_digits}
 use Rattle.pc_wire.specs.Words.{is_space, is_between, words_of}
 use Rattle.pc_wire.proofs.WordLemmas.{words_of-word}
 use Rattle.pc_reply.specs.Items.{flag_digits, counts_text, gone_text, counted_text, MailboxRow, IsRow}

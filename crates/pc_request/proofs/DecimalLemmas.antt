@@ -6,7 +6,7 @@ use Rattle.std.proofs.lemmas.Fmt.{decimal_by_steps, decimal_digit, length-decima
 use Rattle.pc_base.specs.Number.{is_digit, decimal_value, is_number}
 use Rattle.pc_request.specs.Argument.{IsDigits, IsSpelled, written}
 use Rattle.pc_request.specs.Argument as argument
-use Rattle.pc_base.proofs.Decimal.{decimal_digits, is_number-decimal as number_is_read}
+use Rattle.pc_wire.proofs.DecimalLemmas.{decimal_digits, is_number-decimal as number_is_read}
 
 is_number-decimal : (n : ℕ) → n < 2 ^ 32 → IsTrue (is_number 10 (2 ^ 32) (decimal n))
 is_number-decimal n fits = number_is_read 10 (2 ^ 32) n (omega arith) (omega arith) (omega arith) fits
