@@ -8,4 +8,5 @@ pub mod ReplyLemmas
 pub mod StepLemmas
 pub mod ItemLemmas
 pub mod ChangeLemmas
+pub mod ReadingLemmas
 mod Samples
