@@ -9,4 +9,5 @@ pub mod StepLemmas
 pub mod ItemLemmas
 pub mod ChangeLemmas
 pub mod ReadingLemmas
+pub mod RowLemmas
 mod Samples
