@@ -8,4 +8,6 @@ pub mod ReplyLemmas
 pub mod StepLemmas
 pub mod ItemLemmas
 pub mod ChangeLemmas
+pub mod ReadingLemmas
+pub mod RowLemmas
 mod Samples

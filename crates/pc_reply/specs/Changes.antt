@@ -1,5 +1,5 @@
 -- The parts of reading changes.
-use Rattle.std.specs.Prelude.{◌≡◌, ℕ, ◌+◌, ◌<◌, ◌≤◌, ◌==◌, ⊤, Bool, true, false, ◌||◌, List, [], ◌∷◌, ◌++◌, length, Result, Ok, Err}
+use Rattle.std.specs.Prelude.{◌≡◌, ℕ, ◌+◌, ◌<◌, ◌≤◌, ◌==◌, ◌^◌, ⊤, Bool, true, false, ◌||◌, List, [], ◌∷◌, ◌++◌, length, Result, Ok, Err}
 use Rattle.std.specs.List.{slice_index_or}
 use Rattle.pc_message.specs.declared.descriptor.Descriptor.{Descriptor}
 use Rattle.pc_reply.specs.Items.{IsShort}
@@ -47,3 +47,12 @@ descriptor_with uid flags bytes lines texts = record {
   to = slice_index_or texts 2 [];
   subject = slice_index_or texts 3 [];
 }
+
+-- a fault, with its line counted from so many lines before
+abbrev pub fault_after : ℕ → ItemFault → ItemFault
+fault_after place (Bad line) = Bad (place + line)
+fault_after place Memory = Memory
+
+abbrev pub IsInReach : ℕ → ItemFault → Type 0
+IsInReach place (Bad line) = place + line < 2 ^ 64
+IsInReach place Memory = ⊤

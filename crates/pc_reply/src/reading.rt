@@ -7,7 +7,7 @@ ghost use Rattle.pc_message.specs.declared.descriptor.Change.{Change};
 ghost use Rattle.pc_reply.specs.Lists.{ReadsItems};
 ghost use Rattle.pc_reply.specs.Items.{AreChangeLines, AreMailboxLines, MailboxRow, IsRow, change_lines, ChangeFits, uid_of};
 ghost use Rattle.pc_reply.specs.FirstLine.{first_uid};
-ghost use Rattle.pc_reply.specs.Changes.{ReadsItem, ReadsFirst, Learns, HasShort, descriptor_with};
+ghost use Rattle.pc_reply.specs.Changes.{ReadsItem, ReadsFirst, Learns, HasShort, descriptor_with, IsInReach, fault_after};
 ghost use Rattle.pc_reply.specs.declared.items.ItemFault.TheVariants as fault;
 
 use crate::first_line::FirstLine;
@@ -34,12 +34,7 @@ pub fn read_changes(alloc: Global, lines: &Lines) -> Result<Changes, ItemFault>
     while place < all.len() {
         let (change, count) = match read_change(alloc, &mut uids, &all[place..]) {
             Ok(read) => read,
-            Err(ItemFault::Bad { line }) => {
-                return Err(ItemFault::Bad {
-                    line: place + line,
-                });
-            }
-            Err(ItemFault::Memory) => return Err(ItemFault::Memory),
+            Err(fault) => return Err(fault_behind(place, fault)),
         };
         let Ok(()) = changes.push(change) else {
             return Err(ItemFault::Memory);
@@ -71,6 +66,17 @@ pub fn read_mailboxes(alloc: Global, lines: &Lines) -> Result<Names, ItemFault>
         };
     }
     Ok(names)
+}
+
+/// The fault, with its line counted from so many lines before.
+fn fault_behind(place: usize, fault: ItemFault) -> ItemFault
+    requires { IsInReach place fault }
+    ensures { result ≡ fault_after place fault }
+{
+    match fault {
+        ItemFault::Bad { line } => ItemFault::Bad { line: place + line },
+        ItemFault::Memory => ItemFault::Memory,
+    }
 }
 
 /// The change at the front of the lines and how many of them it takes. A fault's line is counted from
