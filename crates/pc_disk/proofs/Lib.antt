@@ -1,2 +1,4 @@
 pub mod Runs
 pub mod ImageLemmas
+mod NoteLemmas
+mod ReplayLemmas
