@@ -2,3 +2,4 @@ pub mod Runs
 pub mod ImageLemmas
 mod NoteLemmas
 mod ReplayLemmas
+mod StateLemmas

@@ -5,3 +5,5 @@ pub mod Deeds
 pub mod Areas
 pub mod Alarm
 pub mod Notes
+pub mod Memory
+pub mod MemoryLaws

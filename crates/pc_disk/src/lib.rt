@@ -7,8 +7,10 @@ mod choice;
 mod deeds;
 mod disk;
 mod fate;
+mod memory_disk;
 mod note;
 mod replay;
 
 pub use choice::Choice;
 pub use disk::Disk;
+pub use memory_disk::MemoryDisk;
