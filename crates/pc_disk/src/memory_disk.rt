@@ -1,10 +1,11 @@
 //! A disk in memory, which fails and stops where it is told to.
 
-ghost use Rattle.std.specs.Prelude.{◌≡◌, ℕ, ◌+◌, ◌-◌, ◌^◌, ◌<◌, ◌≤◌, ◌⊎◌, ◌↔◌, length, take, drop, IfOk, OnOk, OnErr, IsErr, IsTrue, MatchResult};
+ghost use Rattle.std.specs.Prelude.{◌≡◌, ℕ, ◌+◌, ◌-◌, ◌^◌, ◌<◌, ◌≤◌, ◌⊎◌, ◌↔◌, length, min, drop, IfOk, is_ok, if◌then◌else◌, OnOk, OnErr, IsErr, IsTrue, MatchResult};
 ghost use Rattle.pc_base.specs.Stream.{HasCause};
 ghost use Rattle.pc_disk.specs.Images.{area_of};
 ghost use Rattle.pc_disk.specs.Alarm.{fate_of};
 ghost use Rattle.pc_disk.specs.Deeds.{Write, Cut, Sync, reads, MayLeave};
+ghost use Rattle.pc_disk.specs.Reading.{GivesBytes};
 ghost use Rattle.pc_disk.specs.Memory.{empty_disk, passed, after_crash, Answers};
 
 use crate::alarm::Alarm;
@@ -120,65 +121,6 @@ impl MemoryDisk {
             spare_bytes: 0,
         }
     }
-
-    // A write, by what becomes of it.
-    fn pass_write(&mut self, area: u8, at: usize, bytes: &[u8]) -> Result<(), Failed>
-        requires place { at ≤ length (area_of area (reads self.old.first self.old.deeds)) }
-        requires calls { 0 < self.old.spare_calls }
-        requires bytes { length bytes.now ≤ self.old.spare_bytes }
-        ensures state { self.new ≡ passed (Write area at bytes.now) self.old }
-        ensures answer { Answers (fate_of self.old.alarm) result }
-        ensures cause { HasCause self.old.faults self.new.faults result }
-    {
-        let fate = self.alarm.fate();
-        self.alarm.count();
-        self.deeds.push_write(fate, area, at, bytes);
-        self.spare_calls -= 1;
-        self.spare_bytes -= bytes.len();
-        let Fate::Made = fate else {
-            self.faults = self.faults.saturating_add(1);
-            return Err(Failed);
-        };
-        self.present.write(area, at, bytes);
-        Ok(())
-    }
-
-    // A cut, by what becomes of it.
-    fn pass_cut(&mut self, area: u8, to: usize) -> Result<(), Failed>
-        requires { 0 < self.old.spare_calls }
-        ensures state { self.new ≡ passed (Cut area to) self.old }
-        ensures answer { Answers (fate_of self.old.alarm) result }
-        ensures cause { HasCause self.old.faults self.new.faults result }
-    {
-        let fate = self.alarm.fate();
-        self.alarm.count();
-        self.deeds.push_cut(fate, area, to);
-        self.spare_calls -= 1;
-        let Fate::Made = fate else {
-            self.faults = self.faults.saturating_add(1);
-            return Err(Failed);
-        };
-        self.present.cut(area, to);
-        Ok(())
-    }
-
-    // A sync, by what becomes of it.
-    fn pass_sync(&mut self) -> Result<(), Failed>
-        requires { 0 < self.old.spare_calls }
-        ensures state { self.new ≡ passed Sync self.old }
-        ensures answer { Answers (fate_of self.old.alarm) result }
-        ensures cause { HasCause self.old.faults self.new.faults result }
-    {
-        let fate = self.alarm.fate();
-        self.alarm.count();
-        self.deeds.push_sync(fate);
-        self.spare_calls -= 1;
-        let Fate::Made = fate else {
-            self.faults = self.faults.saturating_add(1);
-            return Err(Failed);
-        };
-        Ok(())
-    }
 }
 
 impl Disk for MemoryDisk {
@@ -215,7 +157,13 @@ impl Disk for MemoryDisk {
 
     ghost only_now = { λ _ s left. only_this_moment s.first s.deeds left };
 
-    fn length(&mut self, area: u8) -> Result<u64, Failed> {
+    fn length(&mut self, area: u8) -> Result<u64, Failed>
+        requires { area < 2 }
+        ensures value { IfOk result (λ count. count ≡ length (area_of area (reads self.old.first self.old.deeds))) }
+        ensures state { self.new ≡ (if is_ok result then self.old else record self.old { faults = min (self.old.faults + 1) (2 ^ 64 - 1) }) }
+        ensures stops { IsErr result ↔ IsTrue self.old.alarm.is_stopped }
+        ensures cause { HasCause self.old.faults self.new.faults result }
+    {
         if self.alarm.is_stopped {
             self.faults = self.faults.saturating_add(1);
             return Err(Failed);
@@ -223,7 +171,17 @@ impl Disk for MemoryDisk {
         Ok(self.present.area(area).len() as u64)
     }
 
-    fn read(&mut self, area: u8, at: u64, into: &mut [u8]) -> Result<usize, Failed> {
+    fn read(&mut self, area: u8, at: u64, into: &mut [u8]) -> Result<usize, Failed>
+        requires { area < 2 }
+        ensures bytes { GivesBytes result (drop at (area_of area (reads self.old.first self.old.deeds))) into.new }
+        ensures bound { IfOk result (λ count. count ≤ length into.new) }
+        ensures taken { IfOk result (λ count. self.new ≡ record self.old { taken = self.old.taken + count }) }
+        ensures fault { OnErr result (self.new ≡ record self.old { faults = min (self.old.faults + 1) (2 ^ 64 - 1) }) }
+        ensures stops { IsTrue self.old.alarm.is_stopped → IsErr result }
+        ensures fails { OnErr result (IsTrue self.old.alarm.is_stopped ⊎ (2 ^ 64 ≤ self.old.taken + length into.new)) }
+        ensures small { IfOk result (λ _. self.new.taken < 2 ^ 64) }
+        ensures cause { HasCause self.old.faults self.new.faults result }
+    {
         let bytes = self.present.area(area);
         let rest = &bytes[bytes.len().min(at as usize)..];
         let count = rest.len().min(into.len());
@@ -236,7 +194,14 @@ impl Disk for MemoryDisk {
         Ok(count)
     }
 
-    fn reserve(&mut self, area: u8, upto: u64) -> Result<(), Memory> {
+    fn reserve(&mut self, area: u8, upto: u64) -> Result<(), Memory>
+        requires { area < 2 }
+        ensures calls { OnOk result (8 ≤ self.new.spare_calls) }
+        ensures bytes { OnOk result (upto + 8 ≤ self.new.spare_bytes) }
+        ensures state { self.new ≡ record self.old { spare_calls = self.new.spare_calls; spare_bytes = self.new.spare_bytes } }
+        ensures spare_calls { self.old.spare_calls ≤ self.new.spare_calls }
+        ensures spare_bytes { self.old.spare_bytes ≤ self.new.spare_bytes }
+    {
         let _ = area;
         let calls = self.spare_calls.max(8);
         let Some(bytes) = (upto as usize).checked_add(8) else {
@@ -256,15 +221,61 @@ impl Disk for MemoryDisk {
         Ok(())
     }
 
-    fn write(&mut self, area: u8, at: u64, bytes: &[u8]) -> Result<(), Failed> {
-        self.pass_write(area, at as usize, bytes)
+    fn write(&mut self, area: u8, at: u64, bytes: &[u8]) -> Result<(), Failed>
+        requires area { area < 2 }
+        requires place { at ≤ length (area_of area (reads self.old.first self.old.deeds)) }
+        requires calls { 0 < self.old.spare_calls }
+        requires bytes { length bytes.now ≤ self.old.spare_bytes }
+        ensures state { self.new ≡ passed (Write area at bytes.now) self.old }
+        ensures answer { Answers (fate_of self.old.alarm) result }
+        ensures cause { HasCause self.old.faults self.new.faults result }
+    {
+        let fate = self.alarm.fate();
+        self.alarm.count();
+        self.deeds.push_write(fate, area, at as usize, bytes);
+        self.spare_calls -= 1;
+        self.spare_bytes -= bytes.len();
+        let Fate::Made = fate else {
+            self.faults = self.faults.saturating_add(1);
+            return Err(Failed);
+        };
+        self.present.write(area, at as usize, bytes);
+        Ok(())
     }
 
-    fn cut(&mut self, area: u8, to: u64) -> Result<(), Failed> {
-        self.pass_cut(area, to as usize)
+    fn cut(&mut self, area: u8, to: u64) -> Result<(), Failed>
+        requires area { area < 2 }
+        requires calls { 0 < self.old.spare_calls }
+        ensures state { self.new ≡ passed (Cut area to) self.old }
+        ensures answer { Answers (fate_of self.old.alarm) result }
+        ensures cause { HasCause self.old.faults self.new.faults result }
+    {
+        let fate = self.alarm.fate();
+        self.alarm.count();
+        self.deeds.push_cut(fate, area, to as usize);
+        self.spare_calls -= 1;
+        let Fate::Made = fate else {
+            self.faults = self.faults.saturating_add(1);
+            return Err(Failed);
+        };
+        self.present.cut(area, to as usize);
+        Ok(())
     }
 
-    fn sync(&mut self) -> Result<(), Failed> {
-        self.pass_sync()
+    fn sync(&mut self) -> Result<(), Failed>
+        requires { 0 < self.old.spare_calls }
+        ensures state { self.new ≡ passed Sync self.old }
+        ensures answer { Answers (fate_of self.old.alarm) result }
+        ensures cause { HasCause self.old.faults self.new.faults result }
+    {
+        let fate = self.alarm.fate();
+        self.alarm.count();
+        self.deeds.push_sync(fate);
+        self.spare_calls -= 1;
+        let Fate::Made = fate else {
+            self.faults = self.faults.saturating_add(1);
+            return Err(Failed);
+        };
+        Ok(())
     }
 }

@@ -1,21 +1,6 @@
-use Rattle.std.proofs.Common.{arith, ap, length, ◌∙◌, ◌≤◌}
-use Rattle.pc_disk.specs.Areas.{held}
-use Rattle.pc_disk.specs.Memory.{DiskState}
+use Rattle.std.proofs.Common.{arith, ap, length, ◌≤◌}
 use Rattle.pc_disk.proofs.ReplayLemmas.{Fits_more}
-use Rattle.pc_disk.proofs.StateLemmas.{still_same}
 use Rattle.pc_disk.proofs.memory_disk.MemoryDiskDisk.reserve.Goals as goal
-
-pub returns-in_err-reserve-2-clause-still : goal.returns-in_err-reserve-2-clause-still
-returns-in_err-reserve-2-clause-still c told =
-    still_same _ _ _ _ (ap (λ (s : DiskState). s.first) c.self.view_is) (c.reserve.ensures.deeds ∙ ap (λ (s : DiskState). s.deeds) c.self.view_is)
-
-pub returns-in_err-reserve-3-clause-still : goal.returns-in_err-reserve-3-clause-still
-returns-in_err-reserve-3-clause-still c told =
-    still_same _ _ _ _ (c.reserve-3.ensures.held ∙ ap (λ (s : DiskState). s.first) c.self.view_is) (c.reserve.ensures.deeds ∙ ap (λ (s : DiskState). s.deeds) c.self.view_is)
-
-pub returns-clause-still : goal.returns-clause-still
-returns-clause-still c told =
-    still_same _ _ _ _ (c.reserve-3.ensures.held ∙ ap (λ (s : DiskState). s.first) c.self.view_is) (c.reserve.ensures.deeds ∙ ap (λ (s : DiskState). s.deeds) c.self.view_is)
 
 pub invariant_of-self-2 : goal.invariant_of-self-2
 invariant_of-self-2 c =
