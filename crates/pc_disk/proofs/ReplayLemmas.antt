@@ -171,5 +171,5 @@ crash_held choice pool notes settled first synced now are read pend =
     let newer = told pool (drop settled notes) in
     let older = told pool (take settled notes) in
     let all : pending (newer ++ older) ≡ length newer =
-        omega (arith, are.rest, ap pending (told_parts pool settled notes), length_told pool (drop settled notes), length-drop settled notes) in
+    omega (arith, are.rest, ap pending (told_parts pool settled notes), length_told pool (drop settled notes), length-drop settled notes) in
     pend ∙ ap (λ images. pended choice images newer) read ∙ sym (chosen_splits choice first newer older all) ∙ sym (ap (chosen choice first) (told_parts pool settled notes))

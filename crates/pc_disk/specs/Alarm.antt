@@ -16,7 +16,7 @@ counted alarm = record {
   failing = alarm.failing - 1;
   stopping = alarm.stopping - 1;
   choice = alarm.choice;
-  is_stopped = alarm.is_stopped || (alarm.stopping == 1)
+  is_stopped = alarm.is_stopped || (alarm.stopping == 1);
 }
 
 -- the device call after so many others fails

@@ -48,7 +48,7 @@ passed call s = record {
   faults = faulted (fate_of s.alarm) s.faults;
   taken = s.taken;
   spare_calls = s.spare_calls - 1;
-  spare_bytes = s.spare_bytes - size call
+  spare_bytes = s.spare_bytes - size call;
 }
 
 -- the state after a crash
@@ -60,7 +60,7 @@ after_crash s = record {
   faults = s.faults;
   taken = s.taken;
   spare_calls = 0;
-  spare_bytes = 0
+  spare_bytes = 0;
 }
 
 -- what reads give follows from the record, and what is spare finds room

@@ -29,11 +29,12 @@ impl Alarm {
         }
     }
 
-    /// What becomes of the next device call. A stop comes before a failure.
-    pub fn fate(&self) -> Fate
-        ensures { result ≡ fate_of self.now }
+    /// A device call passes. What becomes of it: a stop comes before a failure.
+    pub fn next(&mut self) -> Fate
+        ensures fate { result ≡ fate_of self.old }
+        ensures after { self.new ≡ counted self.old }
     {
-        if self.is_stopped {
+        let fate = if self.is_stopped {
             Fate::Failed
         } else if self.stopping == 1 {
             Fate::Stopped
@@ -41,15 +42,10 @@ impl Alarm {
             Fate::Failed
         } else {
             Fate::Made
-        }
-    }
-
-    /// A device call passed.
-    pub fn count(&mut self)
-        ensures { self.new ≡ counted self.old }
-    {
+        };
         self.is_stopped = self.is_stopped || self.stopping == 1;
         self.failing = self.failing.saturating_sub(1);
         self.stopping = self.stopping.saturating_sub(1);
+        fate
     }
 }

@@ -14,3 +14,6 @@ mod replay;
 pub use choice::Choice;
 pub use disk::Disk;
 pub use memory_disk::MemoryDisk;
+
+#[cfg(test)]
+mod tests;

@@ -3,7 +3,7 @@
 ghost use Rattle.std.specs.Prelude.{◌≡◌, ℕ, ◌+◌, ◌-◌, ◌^◌, ◌<◌, ◌≤◌, ◌⊎◌, ◌↔◌, length, min, drop, IfOk, is_ok, if◌then◌else◌, OnOk, OnErr, IsErr, IsTrue, MatchResult};
 ghost use Rattle.pc_base.specs.Stream.{HasCause};
 ghost use Rattle.pc_disk.specs.Images.{area_of};
-ghost use Rattle.pc_disk.specs.Alarm.{fate_of};
+ghost use Rattle.pc_disk.specs.Alarm.{fate_of, unarmed, IsDue};
 ghost use Rattle.pc_disk.specs.Deeds.{Write, Cut, Sync, reads, MayLeave};
 ghost use Rattle.pc_disk.specs.Reading.{GivesBytes};
 ghost use Rattle.pc_disk.specs.Memory.{empty_disk, passed, after_crash, Answers};
@@ -68,7 +68,8 @@ impl MemoryDisk {
     /// Lets the k-th device call from now fail. It then changes nothing.
     pub fn fail_at(&mut self, k: u32)
         requires { 0 < k }
-        ensures { self.new ≡ record self.old { alarm = record self.old.alarm { failing = k } } }
+        ensures state { self.new ≡ record self.old { alarm = record self.old.alarm { failing = k } } }
+        ensures due { self.old.alarm ≡ unarmed → (ahead : ℕ) → IsDue self.new.alarm ahead ↔ (ahead + 1 ≡ k) }
     {
         self.alarm.failing = u64::from(k);
     }
@@ -76,7 +77,8 @@ impl MemoryDisk {
     /// Stops the disk at the k-th device call from now, which fails, as each call after it does.
     pub fn stop_at(&mut self, k: u32, choice: Choice)
         requires { 0 < k }
-        ensures { self.new ≡ record self.old { alarm = record self.old.alarm { stopping = k; choice = choice } } }
+        ensures state { self.new ≡ record self.old { alarm = record self.old.alarm { stopping = k; choice = choice } } }
+        ensures due { self.old.alarm ≡ unarmed → (ahead : ℕ) → IsDue self.new.alarm ahead ↔ (k ≤ ahead + 1) }
     {
         self.alarm.stopping = u64::from(k);
         self.alarm.choice = choice;
@@ -165,8 +167,7 @@ impl Disk for MemoryDisk {
         ensures cause { HasCause self.old.faults self.new.faults result }
     {
         if self.alarm.is_stopped {
-            self.faults = self.faults.saturating_add(1);
-            return Err(Failed);
+            return Err(fault(&mut self.faults));
         }
         Ok(self.present.area(area).len() as u64)
     }
@@ -186,8 +187,7 @@ impl Disk for MemoryDisk {
         let rest = &bytes[bytes.len().min(at as usize)..];
         let count = rest.len().min(into.len());
         if self.alarm.is_stopped || self.taken > u64::MAX - count as u64 {
-            self.faults = self.faults.saturating_add(1);
-            return Err(Failed);
+            return Err(fault(&mut self.faults));
         }
         into[..count].copy_from_slice(&rest[..count]);
         self.taken += count as u64;
@@ -230,14 +230,12 @@ impl Disk for MemoryDisk {
         ensures answer { Answers (fate_of self.old.alarm) result }
         ensures cause { HasCause self.old.faults self.new.faults result }
     {
-        let fate = self.alarm.fate();
-        self.alarm.count();
+        let fate = self.alarm.next();
         self.deeds.push_write(fate, area, at as usize, bytes);
         self.spare_calls -= 1;
         self.spare_bytes -= bytes.len();
         let Fate::Made = fate else {
-            self.faults = self.faults.saturating_add(1);
-            return Err(Failed);
+            return Err(fault(&mut self.faults));
         };
         self.present.write(area, at as usize, bytes);
         Ok(())
@@ -250,13 +248,11 @@ impl Disk for MemoryDisk {
         ensures answer { Answers (fate_of self.old.alarm) result }
         ensures cause { HasCause self.old.faults self.new.faults result }
     {
-        let fate = self.alarm.fate();
-        self.alarm.count();
+        let fate = self.alarm.next();
         self.deeds.push_cut(fate, area, to as usize);
         self.spare_calls -= 1;
         let Fate::Made = fate else {
-            self.faults = self.faults.saturating_add(1);
-            return Err(Failed);
+            return Err(fault(&mut self.faults));
         };
         self.present.cut(area, to as usize);
         Ok(())
@@ -268,14 +264,20 @@ impl Disk for MemoryDisk {
         ensures answer { Answers (fate_of self.old.alarm) result }
         ensures cause { HasCause self.old.faults self.new.faults result }
     {
-        let fate = self.alarm.fate();
-        self.alarm.count();
+        let fate = self.alarm.next();
         self.deeds.push_sync(fate);
         self.spare_calls -= 1;
         let Fate::Made = fate else {
-            self.faults = self.faults.saturating_add(1);
-            return Err(Failed);
+            return Err(fault(&mut self.faults));
         };
         Ok(())
     }
+}
+
+// Counts a fault.
+fn fault(faults: &mut u64) -> Failed
+    ensures { faults.new ≡ min (faults.old + 1) (2 ^ 64 - 1) }
+{
+    *faults = faults.saturating_add(1);
+    Failed
 }

@@ -12,7 +12,7 @@ replay-requires-clause-within c =
 pub replay-requires-clause-fits : goal.replay-requires-clause-fits
 replay-requires-clause-fits c =
     rw (c.split_at.ensures.front, c.as_slice.ensures.value, c.deref.ensures.value)
-        (Fits_take _ c.self.inside.pool.items c.self.inside.settled c.self.inside.notes.items (rw (ap (λ (noted : Noted). noted.deeds) c.self.view_is) c.requires))
+    (Fits_take _ c.self.inside.pool.items c.self.inside.settled c.self.inside.notes.items (rw (ap (λ (noted : Noted). noted.deeds) c.self.view_is) c.requires))
 
 pub pend-requires-clause-within : goal.pend-requires-clause-within
 pend-requires-clause-within c =
@@ -21,12 +21,12 @@ pend-requires-clause-within c =
 pub pend-requires-clause-fits : goal.pend-requires-clause-fits
 pend-requires-clause-fits c =
     rw (c.split_at.ensures.back, c.as_slice.ensures.value, c.deref-2.ensures.value)
-        (Fits_more _ _ _ c.replay.ensures.room
-            (Fits_drop _ c.self.inside.pool.items c.self.inside.settled c.self.inside.notes.items (rw (ap (λ (noted : Noted). noted.deeds) c.self.view_is) c.requires)))
+    (Fits_more _ _ _ c.replay.ensures.room
+    (Fits_drop _ c.self.inside.pool.items c.self.inside.settled c.self.inside.notes.items (rw (ap (λ (noted : Noted). noted.deeds) c.self.view_is) c.requires)))
 
 pub returns-clause-held : goal.returns-clause-held
 returns-clause-held c =
     crash_held c.args.choice c.self.inside.pool.items c.self.inside.notes.items c.self.inside.settled (held c.args.areas.now) (held c.replay.new.areas) (held c.pend.new.areas) c.self.invariant
-        (rw (c.split_at.ensures.front, c.as_slice.ensures.value, c.deref.ensures.value) at c.replay.ensures.held)
-        (rw (c.split_at.ensures.back, c.as_slice.ensures.value, c.deref-2.ensures.value) at c.pend.ensures.held)
+    (rw (c.split_at.ensures.front, c.as_slice.ensures.value, c.deref.ensures.value) at c.replay.ensures.held)
+    (rw (c.split_at.ensures.back, c.as_slice.ensures.value, c.deref-2.ensures.value) at c.pend.ensures.held)
     ∙ ap (λ (noted : Noted). chosen c.args.choice (held c.args.areas.now) noted.deeds) c.self.view_is

@@ -17,8 +17,8 @@ copy-requires c =
 pub invariant_of-result : goal.invariant_of-result
 invariant_of-result c =
     crashed_sound (held c.crash.new.areas) (held c.copy.new.self) _ _ _ _ _ _ c.self.inside.limit c.copy.ensures.held c.clear.ensures.deeds c.clear.ensures.written
-        (longest_left c.self.inside.limit c.self.inside.alarm.choice (held c.self.inside.first) (held c.crash.new.areas) c.self.inside.deeds.deeds c.self.invariant.first_fits c.self.invariant.fits c.crash.ensures.held)
-        (omega (arith, c.crash.ensures.room, c.self.invariant.first_holds)) (omega (arith, c.copy.ensures.room, c.self.invariant.present_holds))
+    (longest_left c.self.inside.limit c.self.inside.alarm.choice (held c.self.inside.first) (held c.crash.new.areas) c.self.inside.deeds.deeds c.self.invariant.first_fits c.self.invariant.fits c.crash.ensures.held)
+    (omega (arith, c.crash.ensures.room, c.self.invariant.first_holds)) (omega (arith, c.copy.ensures.room, c.self.invariant.present_holds))
 
 pub returns-clause-possible : goal.returns-clause-possible
 returns-clause-possible c =
