@@ -1,5 +1,5 @@
 pub mod Runs
-pub mod ImageLemmas
 mod NoteLemmas
 mod ReplayLemmas
 mod StateLemmas
+mod Samples

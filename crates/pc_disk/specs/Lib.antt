@@ -1,4 +1,5 @@
 pub mod Images
+pub mod ImageLaws
 pub mod Outcomes
 pub mod Reading
 pub mod Deeds

@@ -4,15 +4,8 @@ use Rattle.std.proofs.lemmas.List.{take-append-drop, length-take, length-drop, d
 use Rattle.pc_disk.specs.declared.choice.Choice.{Choice}
 use Rattle.pc_disk.specs.declared.choice.Choice.TheVariants.{Keep, Lose, Fill}
 use Rattle.pc_disk.specs.Images.{Images, area_of, other_of, with_area, overwritten, Torn, TornCut, InArea}
+use Rattle.pc_disk.specs.ImageLaws.{area_of-with_area, other_of-with_area}
 use Rattle.pc_disk.specs.Deeds.{Call, Write, Cut, Sync, Deed, Made, Stopped, Failed, effect, reads, tears, MayLeave, LeftSince, stands, chosen}
-
-area_of-with_area : (area : ℕ) (bytes : List ℕ) (images : Images) → area_of area (with_area area bytes images) ≡ bytes
-area_of-with_area zero bytes images = refl
-area_of-with_area (suc area) bytes images = refl
-
-other_of-with_area : (area : ℕ) (bytes : List ℕ) (images : Images) → other_of area (with_area area bytes images) ≡ other_of area images
-other_of-with_area zero bytes images = refl
-other_of-with_area (suc area) bytes images = refl
 
 -- a step in an area that comes to these bytes
 in_area : (area : ℕ) (step : List ℕ → List ℕ → Type 0) (images : Images) (bytes : List ℕ) → step (area_of area images) bytes → InArea area step images (with_area area bytes images)

@@ -1,4 +1,4 @@
--- The two areas, and calls that nothing tears.
+-- An area of images in which an area was set.
 use Rattle.std.proofs.Common.{◌≡◌, ℕ, zero, suc, List, refl, ap, sym, ◌∙◌}
 use Rattle.pc_disk.specs.Images.{Images, area_of, other_of, with_area}
 
