@@ -1,5 +1,5 @@
 -- One note more.
-use Rattle.std.proofs.Common.{◌≡◌, ◌∙◌, ℕ, ◌+◌, ◌≤◌, List, [], ◌∷◌, ◌++◌, length, take, drop, refl, ap, sym, arith, length-append}
+use Rattle.std.proofs.Common.{◌≡◌, ◌∙◌, ℕ, ◌+◌, ◌≤◌, List, [], ◌∷◌, ◌++◌, length, take, drop, refl, ap, arith, length-append}
 use Rattle.std.proofs.lemmas.Grind.{common_steps}
 use Rattle.std.proofs.lemmas.List.{take-append-le, drop-append-le, length-drop}
 use Rattle.pc_disk.specs.declared.note.Note.{Note}
@@ -7,7 +7,7 @@ use Rattle.pc_disk.specs.declared.note.NotedCall.{NotedCall}
 use Rattle.pc_disk.specs.declared.note.NotedCall.TheVariants as noted
 use Rattle.pc_disk.specs.declared.fate.Fate.{Fate}
 use Rattle.pc_disk.specs.declared.fate.Fate.TheVariants as fate
-use Rattle.pc_disk.specs.Deeds.{Call, Write, Cut, Sync, Deed, deed_of, pending}
+use Rattle.pc_disk.specs.Deeds.{Write, deed_of, pending}
 use Rattle.pc_disk.specs.Notes.{call_of, told_one, told, IsWithin, AreWithin, AreNoted}
 
 pub length_told : (pool : List ℕ) (notes : List Note) → length (told pool notes) ≡ length notes

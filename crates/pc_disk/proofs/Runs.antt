@@ -1,7 +1,7 @@
 -- How a run of calls goes on, as to what a crash at each of its moments leaves.
-use Rattle.std.proofs.Common.{◌≡◌, ◌+◌, ◌≤◌, ◌⊎◌, inl, inr, ⊎_elim, ℕ, arith}
+use Rattle.std.proofs.Common.{◌≡◌, ◌+◌, inl, inr, ⊎_elim, ℕ, arith}
 use Rattle.pc_disk.specs.Images.{Images}
-use Rattle.pc_disk.specs.Outcomes.{Elapses, IsStill, LeavesOnly}
+use Rattle.pc_disk.specs.Outcomes.{Elapses, LeavesOnly}
 
 module _ {D : Type 0} (moment : D → ℕ) (left_since : D → ℕ → Images → Type 0) where
   -- before the first call

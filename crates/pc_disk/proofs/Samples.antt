@@ -1,7 +1,7 @@
 -- Rows that were worked out by hand: a write, a sync, a write over it and a cut.
-use Rattle.std.proofs.Common.{◌≡◌, ℕ, ◌+◌, List, [], ◌∷◌, ◌++◌, length, refl, arith}
+use Rattle.std.proofs.Common.{◌≡◌, List, [], ◌∷◌, refl, arith}
 use Rattle.pc_disk.specs.declared.choice.Choice.TheVariants.{Keep, Lose, Fill}
-use Rattle.pc_disk.specs.Images.{Images, overwritten, Torn, TornCut}
+use Rattle.pc_disk.specs.Images.{overwritten, Torn, TornCut}
 use Rattle.pc_disk.specs.Deeds.{Write, Cut, Sync, Deed, Made, Stopped, Failed, reads, chosen, pending}
 
 abbrev pub over : List Deed

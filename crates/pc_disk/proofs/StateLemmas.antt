@@ -1,19 +1,16 @@
 -- What a device call makes of a record, by what becomes of the call.
-use Rattle.std.proofs.Common.{◌≡◌, ◌∙◌, ◌↔◌, ◌⊎◌, inl, inr, ℕ, zero, suc, ◌+◌, ◌-◌, ◌*◌, ◌^◌, ◌<◌, ◌≤◌, min, max, Bool, true, false, List, [], ◌∷◌, ◌++◌, length, take, drop, refl, ap, sym, subst, arith, length-append}
+use Rattle.std.proofs.Common.{◌≡◌, ◌⊎◌, inl, inr, ℕ, zero, suc, ◌+◌, ◌≤◌, List, [], ◌∷◌, ◌++◌, length, take, drop, refl, sym, subst, arith, length-append}
 use Rattle.std.proofs.lemmas.List.{length-take, length-drop, length-replicate}
-use Rattle.std.specs.Prelude.{Result, Ok, Err, OnOk, OnErr, IsErr}
-use Rattle.pc_base.specs.Stream.{HasCause, Rose}
-use Rattle.pc_disk.specs.declared.alarm.Alarm.{Alarm}
 use Rattle.pc_disk.specs.declared.choice.Choice.{Choice}
 use Rattle.pc_disk.specs.declared.choice.Choice.TheVariants.{Keep, Lose, Fill}
 use Rattle.pc_disk.specs.declared.fate.Fate.{Fate}
 use Rattle.pc_disk.specs.declared.fate.Fate.TheVariants as fate
-use Rattle.pc_disk.specs.Images.{Images, area_of, with_area, overwritten}
-use Rattle.pc_disk.specs.Outcomes.{Only, Follows, Keeps, Elapses, IsStill}
-use Rattle.pc_disk.specs.Alarm.{fate_of, counted, IsDue}
+use Rattle.pc_disk.specs.Images.{Images}
+use Rattle.pc_disk.specs.Outcomes.{Follows, Keeps, Elapses, IsStill}
+use Rattle.pc_disk.specs.Alarm.{fate_of}
 use Rattle.pc_disk.specs.Areas.{longest}
-use Rattle.pc_disk.specs.Deeds.{Call, Write, Cut, Sync, Deed, Made, Stopped, Failed, deed_of, effect, made, reads, tears, MayLeave, LeftSince, filled, stands, pends, chosen, reach, deed_reach, Fits}
-use Rattle.pc_disk.specs.Memory.{DiskState, faulted, size, passed, Answers, IsSound}
+use Rattle.pc_disk.specs.Deeds.{Call, Write, Cut, Sync, Deed, Made, Stopped, Failed, deed_of, effect, reads, tears, MayLeave, LeftSince, stands, chosen, reach, Fits}
+use Rattle.pc_disk.specs.Memory.{DiskState, passed, IsSound}
 use Rattle.pc_disk.specs.MemoryLaws.{tears_same, reads_possible}
 
 longest-write : (limit area at : ℕ) (bytes : List ℕ) (images : Images) → longest images ≤ limit → at + length bytes ≤ limit → longest (effect (Write area at bytes) images) ≤ limit

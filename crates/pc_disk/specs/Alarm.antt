@@ -1,7 +1,6 @@
 -- Which device calls fail: an armed failure, an armed stop, and all calls after it.
-use Rattle.std.specs.Prelude.{◌≡◌, ◌⊎◌, ℕ, ◌+◌, ◌-◌, ◌<◌, ◌≤◌, Bool, true, false, if◌then◌else◌, ◌==◌, ◌||◌}
+use Rattle.std.specs.Prelude.{◌≡◌, ◌⊎◌, ℕ, ◌+◌, ◌-◌, ◌<◌, ◌≤◌, true, false, if◌then◌else◌, ◌==◌, ◌||◌}
 use Rattle.pc_disk.specs.declared.alarm.Alarm.{Alarm}
-use Rattle.pc_disk.specs.declared.choice.Choice.{Choice}
 use Rattle.pc_disk.specs.declared.choice.Choice.TheVariants.{Lose}
 use Rattle.pc_disk.specs.declared.fate.Fate.{Fate}
 use Rattle.pc_disk.specs.declared.fate.Fate.TheVariants.{Made, Stopped, Failed}

@@ -1,6 +1,6 @@
 -- The device calls of a disk in memory, newest first, and what follows from them: what a read gives,
 -- what a crash may leave, and what it does leave by choice.
-use Rattle.std.specs.Prelude.{◌≡◌, ℕ, ◌+◌, ◌≤◌, Bool, true, false, if◌then◌else◌, List, [], ◌∷◌, length, take, drop, replicate}
+use Rattle.std.specs.Prelude.{◌≡◌, ℕ, ◌+◌, ◌≤◌, List, [], ◌∷◌, length, take, drop, replicate}
 use Rattle.pc_disk.specs.declared.choice.Choice.{Choice}
 use Rattle.pc_disk.specs.declared.choice.Choice.TheVariants.{Keep, Lose, Fill}
 use Rattle.pc_disk.specs.declared.fate.Fate.{Fate}

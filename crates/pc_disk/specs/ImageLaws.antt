@@ -1,5 +1,5 @@
 -- An area of images in which an area was set.
-use Rattle.std.proofs.Common.{◌≡◌, ℕ, zero, suc, List, refl, ap, sym, ◌∙◌}
+use Rattle.std.proofs.Common.{◌≡◌, ℕ, zero, suc, List, refl}
 use Rattle.pc_disk.specs.Images.{Images, area_of, other_of, with_area}
 
 pub area_of-with_area : (area : ℕ) (bytes : List ℕ) (images : Images) → area_of area (with_area area bytes images) ≡ bytes

@@ -1,9 +1,9 @@
 -- A record of device calls keeps the model of crashes.
-use Rattle.std.proofs.Common.{◌≡◌, ◌∙◌, ◌↔◌, ◌⊎◌, inl, inr, ℕ, zero, suc, ◌+◌, ◌-◌, ◌≤◌, min, List, [], ◌∷◌, ◌++◌, length, take, drop, refl, ap, sym, subst, arith, length-append, append_assoc}
+use Rattle.std.proofs.Common.{◌≡◌, ◌∙◌, ℕ, ◌+◌, ◌≤◌, List, [], ◌∷◌, ◌++◌, length, take, drop, refl, ap, sym, subst, arith, append_assoc}
 use Rattle.std.proofs.lemmas.List.{take-append-drop, length-take, length-drop, drop-drop, append-nil, length-replicate}
 use Rattle.pc_disk.specs.declared.choice.Choice.{Choice}
 use Rattle.pc_disk.specs.declared.choice.Choice.TheVariants.{Keep, Lose, Fill}
-use Rattle.pc_disk.specs.Images.{Images, area_of, other_of, with_area, overwritten, Torn, TornCut, InArea}
+use Rattle.pc_disk.specs.Images.{Images, area_of, with_area, overwritten, Torn, TornCut, InArea}
 use Rattle.pc_disk.specs.ImageLaws.{area_of-with_area, other_of-with_area}
 use Rattle.pc_disk.specs.Deeds.{Call, Write, Cut, Sync, Deed, Made, Stopped, Failed, effect, reads, tears, MayLeave, LeftSince, stands, chosen}
 

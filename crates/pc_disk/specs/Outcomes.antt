@@ -1,5 +1,5 @@
 -- What a crash may leave, now or since a moment, and how calls change that.
-use Rattle.std.specs.Prelude.{◌≡◌, ◌⊎◌, ◌↔◌, ℕ, ◌+◌, ◌≤◌}
+use Rattle.std.specs.Prelude.{◌≡◌, ◌⊎◌, ◌↔◌, ℕ, ◌≤◌}
 use Rattle.pc_disk.specs.Images.{Images}
 
 -- a crash leaves this and nothing else

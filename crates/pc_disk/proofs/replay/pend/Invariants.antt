@@ -1,6 +1,5 @@
 use Rattle.std.proofs.Common.{◌≡◌, ◌≤◌, take}
 use Rattle.pc_disk.specs.Areas.{held, room}
-use Rattle.pc_disk.specs.Deeds.{reads}
 use Rattle.pc_disk.specs.Notes.{told, pended}
 use Rattle.pc_disk.proofs.replay.pend.Given as goal
 

@@ -1,7 +1,7 @@
 use Rattle.std.proofs.Common.{◌≡◌, ◌≤◌, take}
 use Rattle.pc_disk.specs.Areas.{held, room}
 use Rattle.pc_disk.specs.Deeds.{reads}
-use Rattle.pc_disk.specs.Notes.{told, pended}
+use Rattle.pc_disk.specs.Notes.{told}
 use Rattle.pc_disk.proofs.replay.replay.Given as goal
 
 abbrev pub invariant-loop-note : goal.invariant-loop-note

@@ -1,8 +1,8 @@
 use Rattle.pc_disk.proofs.ReplayLemmas.{AreWithin_take, AreWithin_drop, Fits_take, Fits_drop, Fits_more, crash_held}
-use Rattle.std.proofs.Common.{ap, length, ◌∙◌}
-use Rattle.pc_disk.specs.Deeds.{Fits, chosen}
-use Rattle.pc_disk.specs.Notes.{Noted, told}
-use Rattle.pc_disk.specs.Areas.{held, room}
+use Rattle.std.proofs.Common.{ap, ◌∙◌}
+use Rattle.pc_disk.specs.Deeds.{chosen}
+use Rattle.pc_disk.specs.Notes.{Noted}
+use Rattle.pc_disk.specs.Areas.{held}
 use Rattle.pc_disk.proofs.deeds.Deeds.crash.Goals as goal
 
 pub replay-requires-clause-within : goal.replay-requires-clause-within

@@ -1,7 +1,5 @@
-use Rattle.std.proofs.Common.{arith, refl, ap, ◌≤◌, ◌≡◌, ◌∙◌}
-use Rattle.pc_disk.specs.Areas.{held, room, longest}
-use Rattle.pc_disk.specs.Deeds.{MayLeave}
-use Rattle.pc_disk.specs.Memory.{DiskState}
+use Rattle.std.proofs.Common.{arith}
+use Rattle.pc_disk.specs.Areas.{held}
 use Rattle.pc_disk.specs.MemoryLaws.{chosen_possible}
 use Rattle.pc_disk.proofs.ReplayLemmas.{Fits_more}
 use Rattle.pc_disk.proofs.StateLemmas.{longest_left, crashed_sound}

@@ -1,5 +1,4 @@
-use Rattle.std.proofs.Common.{rules, arith}
-use Rattle.std.proofs.lemmas.Grind.{common_steps}
+use Rattle.std.proofs.Common.{rules}
 use Rattle.pc_disk.specs.Deeds.{Write, Cut, Sync}
 use Rattle.pc_disk.proofs.StateLemmas.{passed_follows, passed_elapses, synced_keeps, still_same}
 use Rattle.pc_disk.proofs.memory_disk.MemoryDiskDisk.TheImpl.Goals as goal
