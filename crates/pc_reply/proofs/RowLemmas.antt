@@ -10,7 +10,7 @@ use Rattle.std.proofs.lemmas.List.{take-append-drop, take_all, take_more, length
 use Rattle.std.proofs.lemmas.List.Folds.{list_any-append}
 use Rattle.std.proofs.lemmas.Map.Text.{is_eq-slice_cmp}
 use Rattle.std.proofs.Math.Seq.{drop-cons}
-use Rattle.pc_base.proofs.Decimal.{decimal_differ}
+use Rattle.pc_wire.proofs.DecimalLemmas.{decimal_differ}
 use Rattle.pc_reply.specs.Lists.{IsFirstFault, IsBadItem}
 use Rattle.pc_reply.specs.Items.{MailboxRow, mailbox_line, row_lines, row_name, RowFits, IsRow, AreRows, AreMailboxLines}
 use Rattle.pc_reply.proofs.ItemLemmas.{one_list, items_push, fault}

@@ -1,0 +1,5 @@
+pub mod Runs
+mod NoteLemmas
+mod ReplayLemmas
+mod StateLemmas
+mod Samples

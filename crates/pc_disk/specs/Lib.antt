@@ -1,0 +1,10 @@
+pub mod Images
+pub mod ImageLaws
+pub mod Outcomes
+pub mod Reading
+pub mod Deeds
+pub mod Areas
+pub mod Alarm
+pub mod Notes
+pub mod Memory
+pub mod MemoryLaws
