@@ -3,3 +3,4 @@ mod NoteLemmas
 mod ReplayLemmas
 mod StateLemmas
 mod Samples
+mod StepLemmas

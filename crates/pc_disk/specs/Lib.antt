@@ -8,3 +8,4 @@ pub mod Alarm
 pub mod Notes
 pub mod Memory
 pub mod MemoryLaws
+pub mod Steps

@@ -10,10 +10,12 @@ mod fate;
 mod memory_disk;
 mod note;
 mod replay;
+mod steps;
 
 pub use choice::Choice;
 pub use disk::Disk;
 pub use memory_disk::MemoryDisk;
+pub use steps::{StepFault, put, trim};
 
 #[cfg(test)]
 mod tests;

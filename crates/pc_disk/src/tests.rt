@@ -1,8 +1,8 @@
 //! Tables worked out by hand: a write, a sync, a write and a cut, of which one fails or stops the disk.
 
-ghost use Rattle.std.specs.Prelude.{◌<◌, ◌≤◌, IfOk};
+ghost use Rattle.std.specs.Prelude.{◌≡◌, ◌<◌, ◌≤◌, IfOk, []};
 
-use crate::{Choice, Disk, MemoryDisk};
+use crate::{Choice, Disk, MemoryDisk, StepFault, put, trim};
 use std::alloc::Global;
 use std::process::Abort;
 use std::test::Fail;
@@ -32,6 +32,7 @@ fn is_read(disk: &mut MemoryDisk, bytes: &[u8]) -> bool {
 fn roomy(alloc: Global) -> Result<MemoryDisk, Fail>
     ensures calls { IfOk result (λ disk. 4 ≤ disk.spare_calls) }
     ensures bytes { IfOk result (λ disk. 5 ≤ disk.spare_bytes) }
+    ensures fresh { IfOk result (λ disk. disk.deeds ≡ []) }
 {
     let mut disk = MemoryDisk::new(alloc);
     let Ok(()) = disk.reserve(0, 8) else {
@@ -125,5 +126,18 @@ fn both_areas_are_read(rt: HostRuntime) -> Result<(), Fail> {
     assert!(rt; disk.read(1, 3, &mut buffer) == Ok(1));
     assert!(rt; buffer == [4, 3]);
     assert!(rt; disk.read(1, 9, &mut buffer) == Ok(0));
+    Ok(())
+}
+
+#[test]
+fn steps_are_settled(rt: HostRuntime) -> Result<(), Fail> {
+    let mut disk = roomy(rt.alloc())?;
+    assert!(rt; put(&mut disk, 0, 0, &[1, 2, 3]) == Ok(()));
+    assert!(rt; trim(&mut disk, 0, 2) == Ok(()));
+    assert!(rt; is_read(&mut disk.crashed(), &[1, 2]));
+    let mut failing = roomy(rt.alloc())?;
+    failing.fail_at(2);
+    assert!(rt; put(&mut failing, 0, 0, &[1, 2, 3]) == Err(StepFault::Sync));
+    assert!(rt; is_read(&mut failing.crashed(), &[]));
     Ok(())
 }
