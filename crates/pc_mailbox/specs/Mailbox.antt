@@ -1,0 +1,63 @@
+-- What is asked of a mailbox, and what holds of each.
+use Rattle.std.specs.Prelude.{◌≡◌, ℕ, suc, ◌+◌, ◌<◌, ◌≤◌, ◌^◌, ◌&&◌, nat_le, Bool, List, [], ◌∷◌, ◌++◌, map, length, Option, if◌then◌else◌}
+use Rattle.std.specs.Option.{option_map}
+use Rattle.std.specs.List.{filter, list_any, list_all}
+use Rattle.pc_message.specs.declared.descriptor.Change.{Change}
+use Rattle.pc_message.specs.declared.descriptor.Change.TheVariants.{Present}
+use Rattle.pc_message.specs.Message.{weight_of}
+use Rattle.pc_history.specs.declared.kept.Kept.{Kept}
+use Rattle.pc_history.specs.declared.kept.Listed.{Listed}
+use Rattle.pc_history.specs.declared.limits.TheConstants.{MOST_UIDS, MOST_MESSAGES}
+use Rattle.pc_history.specs.Flags.{flag_of}
+use Rattle.pc_history.specs.Table.{total}
+use Rattle.pc_history.specs.Record.{MailboxRecord, kept_at}
+use Rattle.pc_history.specs.Legal.{AreMessages}
+use Rattle.pc_history.specs.Answers.{descriptor_at}
+use Rattle.pc_mailbox.specs.UpdateList.{is_on, are_on}
+
+-- a mailbox that was never made, without clients
+abbrev pub empty_mailbox : MailboxRecord
+empty_mailbox = record { highest = 0; messages = []; lists = [] }
+
+-- what all messages count for
+abbrev pub weight_of_all : List Kept → ℕ
+weight_of_all messages = total (λ (kept : Kept). weight_of kept.message) messages
+
+-- the flags of the message with this uid
+abbrev pub flags_at : ℕ → MailboxRecord → Option ℕ
+flags_at uid box = option_map (λ (kept : Kept). kept.flags) (kept_at uid box.messages)
+
+-- the message with this uid
+abbrev pub message_at : ℕ → MailboxRecord → Option (List (List ℕ))
+message_at uid box = option_map (λ (kept : Kept). kept.message) (kept_at uid box.messages)
+
+-- flag 0 of a message is on
+abbrev pub is_deleted : Kept → Bool
+is_deleted kept = flag_of kept.flags 0
+
+-- the messages whose flag 0 is on
+abbrev pub deleted : List Kept → List Kept
+deleted messages = filter is_deleted messages
+
+-- the uid is one from low to high
+abbrev pub is_between : ℕ → ℕ → Kept → Bool
+is_between low high kept = nat_le low kept.uid && nat_le kept.uid high
+
+-- the descriptors of the messages from low to high, by rising uid
+abbrev pub described : ℕ → ℕ → List Kept → List Change
+described low high messages = map (λ (kept : Kept). Present (descriptor_at kept)) (filter (is_between low high) messages)
+
+-- how many clients have the uid on their lists
+abbrev pub takers_of : ℕ → List (List ℕ × List Listed) → ℕ
+takers_of uid lists = length (filter (λ (entry : List ℕ × List Listed). is_on entry.1 uid) lists)
+
+-- every client has all these uids on its list
+abbrev pub all_list : List ℕ → List (List ℕ × List Listed) → Bool
+all_list uids lists = list_all (λ (entry : List ℕ × List Listed). are_on uids entry.1) lists
+
+-- messages of given uids, which rise, within the limits, and what they weigh
+pub record IsMailbox (highest weight : ℕ) (messages : List Kept) : Type 0 where
+  pub rising : AreMessages highest messages
+  pub uids : highest ≤ MOST_UIDS
+  pub few : length messages ≤ MOST_MESSAGES
+  pub weighed : weight ≡ weight_of_all messages
