@@ -1,5 +1,5 @@
 -- What is asked of a mailbox, and what holds of each.
-use Rattle.std.specs.Prelude.{◌≡◌, ℕ, suc, ◌+◌, ◌<◌, ◌≤◌, ◌^◌, ◌&&◌, nat_le, Bool, List, [], ◌∷◌, ◌++◌, map, length, Option, if◌then◌else◌}
+use Rattle.std.specs.Prelude.{◌≡◌, ℕ, suc, ◌+◌, ◌<◌, ◌≤◌, ◌^◌, ◌&&◌, nat_le, ◌==◌, not, Bool, List, [], ◌∷◌, ◌++◌, map, length, Option, if◌then◌else◌}
 use Rattle.std.specs.Option.{option_map}
 use Rattle.std.specs.List.{filter, list_any, list_all}
 use Rattle.pc_message.specs.declared.descriptor.Change.{Change}
@@ -11,6 +11,7 @@ use Rattle.pc_history.specs.declared.limits.TheConstants.{MOST_UIDS, MOST_MESSAG
 use Rattle.pc_history.specs.Flags.{flag_of}
 use Rattle.pc_history.specs.Table.{total}
 use Rattle.pc_history.specs.Record.{MailboxRecord, kept_at}
+use Rattle.pc_history.specs.Effect.{flagged}
 use Rattle.pc_history.specs.Legal.{AreMessages}
 use Rattle.pc_history.specs.Answers.{descriptor_at}
 use Rattle.pc_mailbox.specs.UpdateList.{is_on, are_on}
@@ -39,6 +40,14 @@ is_deleted kept = flag_of kept.flags 0
 abbrev pub deleted : List Kept → List Kept
 deleted messages = filter is_deleted messages
 
+-- the messages whose flag 0 is off
+abbrev pub remaining : List Kept → List Kept
+remaining messages = filter (λ (kept : Kept). not (is_deleted kept)) messages
+
+-- the message with one flag set, if it has this uid
+abbrev pub with_flag_at : ℕ → ℕ → Bool → Kept → Kept
+with_flag_at uid flag on kept = if kept.uid == uid then flagged flag on kept else kept
+
 -- the uid is one from low to high
 abbrev pub is_between : ℕ → ℕ → Kept → Bool
 is_between low high kept = nat_le low kept.uid && nat_le kept.uid high
@@ -46,14 +55,6 @@ is_between low high kept = nat_le low kept.uid && nat_le kept.uid high
 -- the descriptors of the messages from low to high, by rising uid
 abbrev pub described : ℕ → ℕ → List Kept → List Change
 described low high messages = map (λ (kept : Kept). Present (descriptor_at kept)) (filter (is_between low high) messages)
-
--- how many clients have the uid on their lists
-abbrev pub takers_of : ℕ → List (List ℕ × List Listed) → ℕ
-takers_of uid lists = length (filter (λ (entry : List ℕ × List Listed). is_on entry.1 uid) lists)
-
--- every client has all these uids on its list
-abbrev pub all_list : List ℕ → List (List ℕ × List Listed) → Bool
-all_list uids lists = list_all (λ (entry : List ℕ × List Listed). are_on uids entry.1) lists
 
 -- messages of given uids, which rise, within the limits, and what they weigh
 pub record IsMailbox (highest weight : ℕ) (messages : List Kept) : Type 0 where

@@ -1,9 +1,10 @@
 -- The update list of one client: what it hasn't taken, the longest untouched first.
 use Rattle.std.specs.Prelude.{◌≡◌, ℕ, ◌^◌, ◌-◌, ◌<◌, Bool, List, map, length, is_some}
-use Rattle.std.specs.List.{list_all}
+use Rattle.std.specs.List.{filter, list_all}
 use Rattle.lru.specs.LruCache.{LruCache}
 use Rattle.pc_history.specs.declared.kept.Listed.{Listed}
 use Rattle.pc_history.specs.Record.{stamp_at}
+use Rattle.pc_history.specs.Legal.{Ordered}
 
 -- uids with their stamps, as a list of changes
 abbrev pub changes_of : List (ℕ × ℕ) → List Listed
@@ -21,3 +22,15 @@ are_on uids list = list_all (is_on list) uids
 pub record IsList (stamps : LruCache ℕ ℕ) : Type 0 where
   pub short : length stamps.entries < 2 ^ 32
   pub open_end : stamps.cap ≡ 2 ^ 64 - 1
+
+-- uids that rise
+abbrev pub Rise : List ℕ → Type 0
+Rise uids = Ordered (λ (uid later : ℕ). uid < later) uids
+
+-- how many clients have the uid on their lists
+abbrev pub takers_of : ℕ → List (List ℕ × List Listed) → ℕ
+takers_of uid lists = length (filter (λ (entry : List ℕ × List Listed). is_on entry.1 uid) lists)
+
+-- every client has all these uids on its list
+abbrev pub all_list : List ℕ → List (List ℕ × List Listed) → Bool
+all_list uids lists = list_all (λ (entry : List ℕ × List Listed). are_on uids entry.1) lists
