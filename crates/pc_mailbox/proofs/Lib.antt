@@ -1,2 +1,3 @@
 pub mod Stamps
 pub mod Touches
+pub mod Places

@@ -20,6 +20,10 @@ use Rattle.pc_mailbox.specs.UpdateList.{is_on, are_on}
 abbrev pub empty_mailbox : MailboxRecord
 empty_mailbox = record { highest = 0; messages = []; lists = [] }
 
+-- a message under a uid, with these flags
+abbrev pub kept_as : ℕ → ℕ → List (List ℕ) → Kept
+kept_as uid flags message = record { uid = uid; flags = flags; message = message }
+
 -- what all messages count for
 abbrev pub weight_of_all : List Kept → ℕ
 weight_of_all messages = total (λ (kept : Kept). weight_of kept.message) messages

@@ -5,7 +5,7 @@ ghost use Rattle.std.specs.List.{list_any};
 ghost use Rattle.pc_history.specs.Record.{kept_at, list_of, stamp_at};
 ghost use Rattle.pc_history.specs.Step.{with_message, with_flag_set, expunged, emptied, with_client, without_client, reset_for, taken_by};
 ghost use Rattle.pc_mailbox.specs.UpdateList.{takers_of, all_list};
-ghost use Rattle.pc_mailbox.specs.Mailbox.{empty_mailbox, weight_of_all, is_deleted, deleted, described, flags_at, message_at};
+ghost use Rattle.pc_mailbox.specs.Mailbox.{empty_mailbox, kept_as, weight_of_all, is_deleted, deleted, described, flags_at, message_at};
 
 use crate::messages;
 use crate::shown::Shown;
@@ -68,8 +68,7 @@ impl Mailbox {
     ) -> Result<u32, Memory>
         requires uids { self.old.highest < MOST_UIDS }
         requires room { length self.old.messages < MOST_MESSAGES }
-        ensures mailbox { let uid = suc self.old.highest in
-            let kept = record { uid = uid; flags = flags; message = message.now } in
+        ensures mailbox { let kept = kept_as (suc self.old.highest) flags message.now in
             OnOk result (self.new ≡ with_message at kept self.old) }
         ensures uid { IfOk result (λ uid. uid ≡ suc self.old.highest) }
     {

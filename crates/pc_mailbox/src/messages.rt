@@ -77,9 +77,16 @@ pub fn set_flag(messages: &mut [Kept], uid: u32, flag: u8, on: bool)
     ensures { messages.new ≡ map (with_flag_at uid flag on) messages.old }
 {
     for kept in messages.iter_mut() {
-        if kept.uid == uid {
-            kept.flags = with_flag(kept.flags, flag, on);
-        }
+        set_flag_of(kept, uid, flag, on);
+    }
+}
+
+fn set_flag_of(kept: &mut Kept, uid: u32, flag: u8, on: bool)
+    requires { flag < 16 }
+    ensures { kept.new ≡ with_flag_at uid flag on kept.old }
+{
+    if kept.uid == uid {
+        kept.flags = with_flag(kept.flags, flag, on);
     }
 }
 

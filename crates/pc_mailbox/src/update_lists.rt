@@ -1,6 +1,6 @@
 //! The update lists of all clients of a mailbox, in the clients' order.
 
-ghost use Rattle.std.specs.Prelude.{◌≡◌, true, [], unwrap_or, option_map, option_copied, position, OnOk, IfOk, IsOk};
+ghost use Rattle.std.specs.Prelude.{◌≡◌, ◌≤◌, true, [], length, unwrap_or, option_map, option_copied, position, OnOk, IfOk, IsOk};
 ghost use Rattle.std.specs.Map.{lookup, set_value};
 ghost use Rattle.pc_history.specs.Table.{same, map_values, others};
 ghost use Rattle.pc_history.specs.Step.{without, touched, stamped};
@@ -40,7 +40,8 @@ pub fn touch_for(
     let Some(index) = index_of(lists, client) else {
         return Ok(());
     };
-    touch_all(&mut lists[index].1, at, uids)
+    touch_all(&mut lists[index].1, at, uids)?;
+    Ok(())
 }
 
 /// Takes these uids off the list of a client, where it has one.
@@ -89,7 +90,8 @@ fn index_of(lists: &[(Name, UpdateList)], client: &Name) -> Option<usize>
 
 /// How many clients have the uid on their lists.
 pub fn count_takers(lists: &[(Name, UpdateList)], uid: u32) -> usize
-    ensures { result ≡ takers_of uid lists.now }
+    ensures takers { result ≡ takers_of uid lists.now }
+    ensures bound { result ≤ length lists.now }
 {
     lists
         .iter()
@@ -109,7 +111,8 @@ pub fn list_with(alloc: Global, at: u64, uids: &[u32]) -> Result<UpdateList, Mem
 
 /// Takes the list of a client away.
 pub fn remove(lists: &mut Vec<(Name, UpdateList)>, client: &Name)
-    ensures { lists.new.items ≡ others client.now lists.old.items }
+    ensures others { lists.new.items ≡ others client.now lists.old.items }
+    ensures bound { length lists.new.items ≤ length lists.old.items }
 {
     lists.retain(|entry| *client != entry.0);
 }
