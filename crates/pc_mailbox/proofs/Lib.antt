@@ -1,3 +1,5 @@
 pub mod Stamps
 pub mod Touches
 pub mod Places
+pub mod Fronts
+pub mod Holds

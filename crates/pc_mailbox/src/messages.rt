@@ -1,6 +1,6 @@
 //! The messages of a mailbox, by rising uid.
 
-ghost use Rattle.std.specs.Prelude.{◌≡◌, ◌≤◌, ◌<◌, true, map, length, option_copied, IfOk};
+ghost use Rattle.std.specs.Prelude.{◌≡◌, ◌≤◌, ◌<◌, true, map, length, option_copied, [], ◌∷◌, ◌++◌, OnOk, IfOk};
 ghost use Rattle.std.specs.List.{list_any, find};
 ghost use Rattle.pc_history.specs.Record.{kept_at};
 ghost use Rattle.pc_history.specs.Step.{uids_of};
@@ -63,12 +63,25 @@ pub fn describe_all(
 {
     let mut changes = Changes::new(alloc);
     for kept in messages {
-        if low <= kept.uid && kept.uid <= high {
-            let descriptor = describe(alloc, &kept.message, kept.uid, kept.flags)?;
-            changes.push(Change::Present(descriptor))?;
-        }
+        describe_one(alloc, &mut changes, kept, low, high)?;
     }
     Ok(changes)
+}
+
+fn describe_one(
+    alloc: Global,
+    changes: &mut Changes,
+    kept: &Kept,
+    low: u32,
+    high: u32,
+) -> Result<(), Memory>
+    ensures { OnOk result (changes.new ≡ changes.old ++ described low high (kept.now ∷ [])) }
+{
+    if low <= kept.uid && kept.uid <= high {
+        let descriptor = describe(alloc, &kept.message, kept.uid, kept.flags)?;
+        changes.push(Change::Present(descriptor))?;
+    }
+    Ok(())
 }
 
 /// Sets a flag of the message with this uid.
