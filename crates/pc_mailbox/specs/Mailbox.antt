@@ -1,5 +1,5 @@
 -- What is asked of a mailbox, and what holds of each.
-use Rattle.std.specs.Prelude.{◌≡◌, ℕ, suc, ◌+◌, ◌<◌, ◌≤◌, ◌^◌, ◌&&◌, nat_le, ◌==◌, not, Bool, List, [], ◌∷◌, ◌++◌, map, length, Option, if◌then◌else◌}
+use Rattle.std.specs.Prelude.{◌≡◌, ℕ, suc, ◌+◌, ◌*◌, ◌<◌, ◌≤◌, ◌^◌, ◌&&◌, nat_le, ◌==◌, not, Bool, List, [], ◌∷◌, ◌++◌, map, length, Option, if◌then◌else◌}
 use Rattle.std.specs.Option.{option_map}
 use Rattle.std.specs.List.{filter, list_any, list_all}
 use Rattle.pc_message.specs.declared.descriptor.Change.{Change}
@@ -60,9 +60,10 @@ is_between low high kept = nat_le low kept.uid && nat_le kept.uid high
 abbrev pub described : ℕ → ℕ → List Kept → List Change
 described low high messages = map (λ (kept : Kept). Present (descriptor_at kept)) (filter (is_between low high) messages)
 
--- messages of given uids, which rise, within the limits, and what they weigh
+-- messages of given uids, which rise, within the limits, and what they weigh, each at most 65,792
 pub record IsMailbox (highest weight : ℕ) (messages : List Kept) : Type 0 where
   pub rising : AreMessages highest messages
   pub uids : highest ≤ MOST_UIDS
   pub few : length messages ≤ MOST_MESSAGES
   pub weighed : weight ≡ weight_of_all messages
+  pub light : weight ≤ 65792 * length messages

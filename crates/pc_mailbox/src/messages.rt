@@ -1,6 +1,6 @@
 //! The messages of a mailbox, by rising uid.
 
-ghost use Rattle.std.specs.Prelude.{◌≡◌, ◌≤◌, ◌<◌, true, map, length, option_copied, [], ◌∷◌, ◌++◌, OnOk, IfOk};
+ghost use Rattle.std.specs.Prelude.{◌≡◌, ◌*◌, ◌≤◌, ◌<◌, true, map, length, option_copied, [], ◌∷◌, ◌++◌, OnOk, IfOk};
 ghost use Rattle.std.specs.List.{list_any, find};
 ghost use Rattle.pc_history.specs.Record.{kept_at};
 ghost use Rattle.pc_history.specs.Step.{uids_of};
@@ -43,7 +43,8 @@ pub fn any_deleted(messages: &[Kept]) -> bool
 /// What the messages count for.
 pub fn weight_of(messages: &[Kept]) -> u32
     requires { length messages.now ≤ MOST_MESSAGES }
-    ensures { result ≡ weight_of_all messages.now }
+    ensures weight { result ≡ weight_of_all messages.now }
+    ensures bound { result ≤ 65792 * length messages.now }
 {
     let mut weight = 0;
     for kept in messages {
