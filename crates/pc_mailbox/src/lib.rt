@@ -9,3 +9,6 @@ mod update_lists;
 
 pub use mailbox::Mailbox;
 pub use shown::Shown;
+
+#[cfg(test)]
+mod tests;
