@@ -1,5 +1,5 @@
 -- Loops over lists: what is done of a list so far.
-use Rattle.std.proofs.Common.{◌≡◌, ℕ, zero, suc, ◌+◌, ◌*◌, ◌<◌, ◌≤◌, Bool, true, false, cond, ◌&&◌, List, [], ◌∷◌, ◌++◌, map, take, length, get_or, refl, sym, ap, ◌∙◌, arith}
+use Rattle.std.proofs.Common.{◌≡◌, ℕ, zero, suc, ◌+◌, ◌<◌, Bool, true, false, cond, List, [], ◌∷◌, ◌++◌, map, take, length, get_or, refl, sym, ap, ◌∙◌, arith}
 use Rattle.std.proofs.Math.ListN.{set}
 use Rattle.std.specs.List.{filter, list_all}
 use Rattle.std.proofs.lemmas.List.{map-append, take_more}
@@ -8,7 +8,7 @@ use Rattle.pc_message.specs.declared.descriptor.Change.TheVariants.{Present}
 use Rattle.pc_message.specs.Message.{weight_of}
 use Rattle.pc_history.specs.declared.kept.Kept.{Kept}
 use Rattle.pc_history.specs.Answers.{descriptor_at}
-use Rattle.pc_history.specs.Table.{map_values, total}
+use Rattle.pc_history.specs.Table.{map_values}
 use Rattle.pc_mailbox.specs.Mailbox.{weight_of_all, described, is_between}
 use Rattle.pc_mailbox.proofs.Touches.{and-first, and-second}
 

@@ -1,6 +1,5 @@
 -- What holds of a mailbox goes on holding.
-use Rattle.std.proofs.Common.{◌≡◌, ℕ, suc, ◌+◌, ◌*◌, ◌<◌, ◌≤◌, ◌==◌, Bool, true, false, not, cond, List, [], ◌∷◌, ◌++◌, map, take, length, refl, sym, ap, ◌∙◌, arith, length-append}
-use Rattle.std.specs.List.{AllByRecursion, filter}
+use Rattle.std.proofs.Common.{◌≡◌, ℕ, suc, ◌+◌, ◌*◌, ◌<◌, ◌≤◌, ◌==◌, Bool, true, false, not, cond, List, [], ◌∷◌, ◌++◌, map, take, length, refl, ap, arith, length-append}
 use Rattle.std.proofs.lemmas.List.{length-take}
 use Rattle.std.proofs.Math.Seq.{take-append_seam}
 use Rattle.pc_message.specs.Message.{weight_of}
@@ -13,7 +12,7 @@ use Rattle.pc_history.proofs.Formed.{AreUids-messages, AreMessages-filter, AreMe
 use Rattle.pc_history.proofs.Uids.{Every-weaker, Every-append}
 use Rattle.pc_history.proofs.Numbers.{length-filter-le, total-append}
 use Rattle.pc_mailbox.specs.UpdateList.{Rise}
-use Rattle.pc_mailbox.specs.Mailbox.{IsMailbox, weight_of_all, is_deleted, deleted, remaining, with_flag_at, kept_as}
+use Rattle.pc_mailbox.specs.Mailbox.{IsMailbox, weight_of_all, is_deleted, deleted, remaining, with_flag_at}
 
 pub rise-uids : (highest : ℕ) (messages : List Kept) → AreMessages highest messages → Rise (uids_of messages)
 rise-uids highest messages h = (AreUids-messages highest messages h).rising

@@ -1,12 +1,11 @@
 -- Uids that are touched or taken one after the other.
-use Rattle.std.proofs.Common.{◌≡◌, ℕ, zero, suc, ◌<◌, ◌≤◌, ◌+◌, nat_eq, ◌==◌, Bool, true, false, not, cond, ◌&&◌, ◌||◌, List, [], ◌∷◌, ◌++◌, map, take, drop, length, get_or, Option, Some, None, is_some, option_map, refl, sym, ap, ◌∙◌, arith, append_assoc, rules}
-use Rattle.std.specs.List.{AllByRecursion, filter, list_any, list_all}
+use Rattle.std.proofs.Common.{◌≡◌, ℕ, zero, suc, ◌<◌, ◌+◌, nat_eq, ◌==◌, Bool, true, false, not, cond, ◌&&◌, ◌||◌, List, [], ◌∷◌, ◌++◌, take, length, get_or, Option, Some, is_some, option_map, refl, ap, ◌∙◌, arith, append_assoc, rules}
+use Rattle.std.specs.List.{AllByRecursion, filter, list_all}
 use Rattle.std.specs.Cmp.{nat_eq_equiv}
 use Rattle.std.proofs.lemmas.Bool.{ne_eqb, eqb-true}
 use Rattle.std.proofs.lemmas.List.{map-append, take_more}
 use Rattle.pc_history.specs.declared.kept.Listed.{Listed}
 use Rattle.pc_history.specs.Table.{has_number}
-use Rattle.pc_history.specs.Record.{stamp_at}
 use Rattle.pc_history.specs.Step.{without, touched, stamped}
 use Rattle.pc_history.proofs.Uids.{has_number-append}
 use Rattle.pc_mailbox.specs.UpdateList.{is_on, are_on, Rise}

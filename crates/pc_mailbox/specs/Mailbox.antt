@@ -1,12 +1,11 @@
 -- What is asked of a mailbox, and what holds of each.
-use Rattle.std.specs.Prelude.{◌≡◌, ℕ, suc, ◌+◌, ◌*◌, ◌<◌, ◌≤◌, ◌^◌, ◌&&◌, nat_le, ◌==◌, not, Bool, List, [], ◌∷◌, ◌++◌, map, length, Option, if◌then◌else◌}
+use Rattle.std.specs.Prelude.{◌≡◌, ℕ, ◌*◌, ◌≤◌, ◌&&◌, nat_le, ◌==◌, not, Bool, List, [], map, length, Option, if◌then◌else◌}
 use Rattle.std.specs.Option.{option_map}
-use Rattle.std.specs.List.{filter, list_any, list_all}
+use Rattle.std.specs.List.{filter}
 use Rattle.pc_message.specs.declared.descriptor.Change.{Change}
 use Rattle.pc_message.specs.declared.descriptor.Change.TheVariants.{Present}
 use Rattle.pc_message.specs.Message.{weight_of}
 use Rattle.pc_history.specs.declared.kept.Kept.{Kept}
-use Rattle.pc_history.specs.declared.kept.Listed.{Listed}
 use Rattle.pc_history.specs.declared.limits.TheConstants.{MOST_UIDS, MOST_MESSAGES}
 use Rattle.pc_history.specs.Flags.{flag_of}
 use Rattle.pc_history.specs.Table.{total}
@@ -14,7 +13,6 @@ use Rattle.pc_history.specs.Record.{MailboxRecord, kept_at}
 use Rattle.pc_history.specs.Effect.{flagged}
 use Rattle.pc_history.specs.Legal.{AreMessages}
 use Rattle.pc_history.specs.Answers.{descriptor_at}
-use Rattle.pc_mailbox.specs.UpdateList.{is_on, are_on}
 
 -- a mailbox that was never made, without clients
 abbrev pub empty_mailbox : MailboxRecord

@@ -7,10 +7,9 @@ ghost use Rattle.pc_history.specs.Step.{with_message, with_flag_set, expunged, e
 ghost use Rattle.pc_mailbox.specs.UpdateList.{takers_of, all_list};
 ghost use Rattle.pc_mailbox.specs.Mailbox.{empty_mailbox, kept_as, weight_of_all, is_deleted, deleted, described, flags_at, message_at};
 
-use crate::messages;
 use crate::shown::Shown;
 use crate::update_list::UpdateList;
-use crate::update_lists;
+use crate::{messages, update_lists};
 use pc_base::{Memory, Name, Uids};
 use pc_history::{Kept, MOST_MESSAGES, MOST_UIDS, is_on, with_flag};
 use pc_message::{Changes, Message};

@@ -44,7 +44,10 @@ fn list(alloc: Global, mailbox: &Mailbox, client: Name) -> Result<Vec<(u32, u64)
 #[test]
 fn own_changes_are_listed(rt: HostRuntime) -> Result<(), Fail> {
     let alloc = rt.alloc();
-    let (ws1, ws2) = (Name::read(b"ws1").ok_or("ws1")?, Name::read(b"ws2").ok_or("ws2")?);
+    let (ws1, ws2) = (
+        Name::read(b"ws1").ok_or("ws1")?,
+        Name::read(b"ws2").ok_or("ws2")?,
+    );
     let mut inbox = Mailbox::empty(alloc)?;
     inbox.add_client(alloc, 3, ws1)?;
     inbox.add_client(alloc, 4, ws2)?;
@@ -73,7 +76,10 @@ fn own_changes_are_listed(rt: HostRuntime) -> Result<(), Fail> {
 #[test]
 fn expunged_messages_are_listed(rt: HostRuntime) -> Result<(), Fail> {
     let alloc = rt.alloc();
-    let (ws1, other) = (Name::read(b"ws1").ok_or("ws1")?, Name::read(b"other").ok_or("other")?);
+    let (ws1, other) = (
+        Name::read(b"ws1").ok_or("ws1")?,
+        Name::read(b"other").ok_or("other")?,
+    );
     let mut inbox = Mailbox::empty(alloc)?;
     inbox.add_client(alloc, 3, ws1)?;
     add(alloc, &mut inbox, 5, &letter(alloc)?)?;

@@ -11,11 +11,7 @@ use pc_base::{Memory, Name};
 use std::alloc::Global;
 
 /// Touches these uids, which rise, for every client.
-pub fn touch_for_all(
-    lists: &mut [(Name, UpdateList)],
-    at: u64,
-    uids: &[u32],
-) -> Result<(), Memory>
+pub fn touch_for_all(lists: &mut [(Name, UpdateList)], at: u64, uids: &[u32]) -> Result<(), Memory>
     requires { Rise uids.now }
     ensures ok { OnOk result (lists.new ≡ map_values (touched at uids.now) lists.old) }
     ensures spare { all_list uids.now lists.old ≡ true → IsOk result }

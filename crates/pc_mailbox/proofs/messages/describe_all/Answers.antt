@@ -1,5 +1,5 @@
 use Rattle.pc_mailbox.proofs.Fronts.{described-more}
-use Rattle.std.proofs.Common.{ap, [], ◌∷◌, ◌++◌, ◌∙◌, take, List}
+use Rattle.std.proofs.Common.{ap, [], ◌∷◌, ◌++◌, ◌∙◌, take}
 use Rattle.pc_history.specs.declared.kept.Kept.{Kept}
 use Rattle.pc_mailbox.specs.Mailbox.{described}
 use Rattle.pc_mailbox.proofs.messages.describe_all.Goals as goal

@@ -1,7 +1,4 @@
-use Rattle.std.proofs.Common.{sym, ◌∙◌, ap}
-use Rattle.pc_history.specs.declared.kept.Listed.{Listed}
-use Rattle.std.proofs.Common.{List, length, take}
-use Rattle.pc_history.specs.Step.{without}
+use Rattle.std.proofs.Common.{sym}
 use Rattle.pc_mailbox.proofs.Touches.{without-none, without-next}
 use Rattle.pc_mailbox.proofs.update_lists.take_all_off.Goals as goal
 

@@ -1,6 +1,4 @@
-use Rattle.std.proofs.Common.{◌≡◌, true, true≢false, sym, ◌∙◌, subst, List}
-use Rattle.pc_history.specs.declared.kept.Listed.{Listed}
-use Rattle.pc_mailbox.specs.UpdateList.{is_on}
+use Rattle.std.proofs.Common.{true≢false, sym}
 use Rattle.pc_mailbox.proofs.Touches.{touched-none, touched-next, next-on}
 use Rattle.pc_mailbox.proofs.update_lists.touch_all.Goals as goal
 

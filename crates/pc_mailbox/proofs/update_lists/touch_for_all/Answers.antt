@@ -1,4 +1,4 @@
-use Rattle.std.proofs.Common.{◌≡◌, true, true≢false, ap, sym, ◌∙◌, arith, List, ℕ, get_or, subst}
+use Rattle.std.proofs.Common.{true≢false, ap, sym, ◌∙◌, arith, List, ℕ, get_or}
 use Rattle.pc_history.specs.declared.kept.Listed.{Listed}
 use Rattle.pc_history.specs.Step.{touched}
 use Rattle.pc_mailbox.specs.UpdateList.{are_on}

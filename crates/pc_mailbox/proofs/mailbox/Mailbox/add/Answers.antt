@@ -1,4 +1,4 @@
-use Rattle.std.proofs.Common.{◌≡◌, refl, suc, ◌+◌, ◌≤◌, ap, sym, ◌∙◌, arith, length, drop, add-one}
+use Rattle.std.proofs.Common.{refl, suc, ap, sym, ◌∙◌, arith, length, add-one}
 use Rattle.pc_message.specs.Message.{weight_of}
 use Rattle.pc_history.specs.declared.kept.Kept.{Kept}
 use Rattle.pc_mailbox.proofs.Holds.{IsMailbox-add, short-take}
@@ -15,6 +15,7 @@ invariant_of-self-2 c =
     let kept : Kept = record { uid = suc c.self.inside.highest; flags = c.args.flags; message = c.in_ok-copy.field-0 } in
     let low = rw (← c.self.view_is) at c.requires.uids in
     let room = rw (← c.self.view_is) at c.requires.room in
-    let heavy = c.weight.ensures.weight ∙ ap weight_of (sym c.in_ok-copy.ensures) in
-    (rw (c.in_ok-push.ensures.items, c.reserve.ensures.items, add-one) (IsMailbox-add c.self.inside.highest c.self.inside.weight c.self.inside.messages.items kept c.self.invariant.0 low room refl c.weight.result heavy c.weight.ensures.bound),
-    short-take _ _ _ (omega (arith, old, same, few)))
+    let heavy = c.weight.ensures.weight ∙ ap weight_of (sym c.in_ok-copy.ensures) in (
+      rw (c.in_ok-push.ensures.items, c.reserve.ensures.items, add-one) (IsMailbox-add c.self.inside.highest c.self.inside.weight c.self.inside.messages.items kept c.self.invariant.0 low room refl c.weight.result heavy c.weight.ensures.bound),
+      short-take _ _ _ (omega (arith, old, same, few)),
+    )

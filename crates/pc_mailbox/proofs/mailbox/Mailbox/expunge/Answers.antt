@@ -1,6 +1,5 @@
-use Rattle.std.proofs.Common.{◌≡◌, ◌≤◌, ap, sym, ◌∙◌, arith, length, drop, refl}
+use Rattle.std.proofs.Common.{◌≡◌, ap, sym, ◌∙◌, arith, length, drop, refl}
 use Rattle.pc_history.proofs.Numbers.{length-filter-le}
-use Rattle.pc_history.specs.Step.{uids_of}
 use Rattle.pc_mailbox.specs.Mailbox.{is_deleted, deleted, weight_of_all}
 use Rattle.pc_mailbox.proofs.Holds.{IsMailbox-expunge, rise-deleted, few-remaining, short-take, whole, length-uids}
 use Rattle.pc_mailbox.proofs.mailbox.Mailbox.expunge.Goals as goal
@@ -26,9 +25,10 @@ invariant_of-self-2 c =
     let few = c.self.invariant.1 in
     let left = c.deref-3.ensures.value ∙ c.drop_deleted.ensures in
     let weighed = c.weight_of-self-inside.ensures.weight ∙ ap weight_of_all left in
-    let light = rw left at c.weight_of-self-inside.ensures.bound in
-    (rw c.drop_deleted.ensures (IsMailbox-expunge c.self.inside.highest c.self.inside.weight c.self.inside.messages.items c.self.invariant.0 c.weight_of-self-inside.result weighed light),
-    short-take _ _ _ (omega (arith, old, same, few)))
+    let light = rw left at c.weight_of-self-inside.ensures.bound in (
+      rw c.drop_deleted.ensures (IsMailbox-expunge c.self.inside.highest c.self.inside.weight c.self.inside.messages.items c.self.invariant.0 c.weight_of-self-inside.result weighed light),
+      short-take _ _ _ (omega (arith, old, same, few)),
+    )
 
 pub returns-clause-mailbox : goal.returns-clause-mailbox
 returns-clause-mailbox c =
