@@ -92,7 +92,8 @@ impl Mailbox {
         ensures mailbox { OnOk result (self.new ≡ with_flag_set at uid flag on self.old) }
         ensures spare { all_list (uid ∷ []) self.old.lists ≡ true → IsOk result }
     {
-        update_lists::touch_for_all(&mut self.lists, at, &[uid])?;
+        let changed = [uid];
+        update_lists::touch_for_all(&mut self.lists, at, &changed)?;
         messages::set_flag(&mut self.messages, uid, flag, on);
         Ok(())
     }
@@ -102,11 +103,11 @@ impl Mailbox {
         ensures mailbox { OnOk result (self.new ≡ expunged at self.old) }
         ensures count { IfOk result (λ count. count ≡ length (deleted self.old.messages)) }
     {
-        let uids = messages::uids_of_deleted(alloc, &self.messages)?;
-        update_lists::touch_for_all(&mut self.lists, at, &uids)?;
+        let gone = messages::uids_of_deleted(alloc, &self.messages)?;
+        update_lists::touch_for_all(&mut self.lists, at, &gone)?;
         messages::drop_deleted(&mut self.messages);
         self.weight = messages::weight_of(&self.messages);
-        Ok(uids.len() as u32)
+        Ok(gone.len() as u32)
     }
 
     /// Takes away all messages.
