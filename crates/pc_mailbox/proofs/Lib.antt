@@ -3,3 +3,4 @@ pub mod Touches
 pub mod Places
 pub mod Fronts
 pub mod Holds
+pub mod Admitted

@@ -136,3 +136,13 @@ take-all-listed zero [] h = refl
 take-all-listed (suc count) [] h = refl
 take-all-listed zero (listed ∷ whole) h = absurd (omega (arith, h))
 take-all-listed (suc count) (listed ∷ whole) h = ap (λ (l : List Listed). listed ∷ l) (take-all-listed count whole (omega (arith, h)))
+
+pub changes_of-take : (count : ℕ) (es : List (ℕ × ℕ)) → changes_of (take count es) ≡ take count (changes_of es)
+changes_of-take zero [] = refl
+changes_of-take zero (e ∷ es) = refl
+changes_of-take (suc count) [] = refl
+changes_of-take (suc count) (e ∷ es) = ap (λ (l : List Listed). record { uid = e.0; stamp = e.1 } ∷ l) (changes_of-take count es)
+
+-- a map that was cut stands for the front of the list
+pub cut-front : (count : ℕ) (now before : List (ℕ × ℕ)) → take count now ≡ take count before → length now ≤ count → changes_of now ≡ take count (changes_of before)
+cut-front count now before e h = ap changes_of (sym (take-whole count now h)) ∙ (ap changes_of e ∙ changes_of-take count before)

@@ -22,7 +22,7 @@ pub and-second : (a b : Bool) → (a && b) ≡ true → b ≡ true
 and-second true b h = h
 and-second false b h = cc
 
-filter-append : (p : Listed → Bool) (xs ys : List Listed) → filter p (xs ++ ys) ≡ filter p xs ++ filter p ys
+pub filter-append : (p : Listed → Bool) (xs ys : List Listed) → filter p (xs ++ ys) ≡ filter p xs ++ filter p ys
 filter-append p [] ys = refl
 filter-append p (x ∷ xs) ys = elim (p x) as (λ b. cond b (x ∷ filter p (xs ++ ys)) (filter p (xs ++ ys)) ≡ cond b (x ∷ filter p xs) (filter p xs) ++ filter p ys) [
   | true ↦ ap (λ (l : List Listed). x ∷ l) (filter-append p xs ys)
@@ -52,7 +52,7 @@ touched-none at list = rw (without-none list) (search rules)
 stamped-step : (a : Bool) (at uid other : ℕ) (rest : List Listed) → (other == uid) ≡ a → a ≡ false → without (uid ∷ []) rest ≡ rest → without (uid ∷ []) (record { uid = other; stamp = at } ∷ rest) ≡ record { uid = other; stamp = at } ∷ rest
 stamped-step a at uid other rest e f h = let g : nat_eq uid other ≡ false = nat_eq_equiv.symm uid other ∙ e ∙ f in rw g (ap (λ (l : List Listed). record { uid = other; stamp = at } ∷ l) h)
 
-or-false : (a b : Bool) → (a || b) ≡ false → (a ≡ false) × (b ≡ false)
+pub or-false : (a b : Bool) → (a || b) ≡ false → (a ≡ false) × (b ≡ false)
 or-false true b h = cc
 or-false false b h = (refl, h)
 
@@ -109,7 +109,7 @@ rise-apart (uid ∷ uids) (suc i) d h lt =
     let differs : (uid == get_or uids i d) ≡ false = ne_eqb uid (get_or uids i d) (λ e. omega arith) in
     rw differs (rise-apart uids i d h.1 here)
 
-list_all-at : (p : ℕ → Bool) (uids : List ℕ) (i d : ℕ) → list_all p uids ≡ true → i < length uids → p (get_or uids i d) ≡ true
+pub list_all-at : (p : ℕ → Bool) (uids : List ℕ) (i d : ℕ) → list_all p uids ≡ true → i < length uids → p (get_or uids i d) ≡ true
 list_all-at p [] i d h lt = absurd (omega (arith, lt))
 list_all-at p (uid ∷ uids) zero d h lt = and-first (p uid) (list_all p uids) h
 list_all-at p (uid ∷ uids) (suc i) d h lt = list_all-at p uids i d (and-second (p uid) (list_all p uids) h) (omega (arith, lt))

@@ -68,6 +68,15 @@ impl UpdateList {
         self.stamps.pop(&uid);
     }
 
+    /// Takes off the changes behind the first so many.
+    pub fn cut(&mut self, count: u32)
+        ensures { self.new ≡ take count self.old }
+    {
+        while self.stamps.len() > count as usize {
+            self.stamps.pop_lru();
+        }
+    }
+
     /// The stamp of the uid, where it is on the list.
     pub fn stamp(&self, uid: u32) -> Option<u64>
         ensures { result ≡ stamp_at uid self.now }

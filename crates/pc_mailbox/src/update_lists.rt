@@ -1,28 +1,76 @@
 //! The update lists of all clients of a mailbox, in the clients' order.
 
-ghost use Rattle.std.specs.Prelude.{◌≡◌, ◌≤◌, true, [], length, unwrap_or, option_map, option_copied, position, OnOk, IfOk, IsOk};
+ghost use Rattle.std.specs.Prelude.{◌≡◌, ◌≤◌, true, [], length, unwrap_or, option_map, option_copied, position, OnOk, OnErr, IfOk, IsOk};
 ghost use Rattle.std.specs.Map.{lookup, set_value};
 ghost use Rattle.pc_history.specs.Table.{same, map_values, others};
 ghost use Rattle.pc_history.specs.Step.{without, touched, stamped};
-ghost use Rattle.pc_mailbox.specs.UpdateList.{is_on, are_on, all_list, takers_of, Rise};
+ghost use Rattle.pc_mailbox.specs.UpdateList.{is_on, are_on, all_list, takers_of, Rise, Grown, back_mapped, touched_entry};
 
 use crate::update_list::UpdateList;
 use pc_base::{Memory, Name};
 use std::alloc::Global;
 
-/// Touches these uids, which rise, for every client.
-pub fn touch_for_all(lists: &mut [(Name, UpdateList)], at: u64, uids: &[u32]) -> Result<(), Memory>
+/// Touches these uids, which rise, for every client. After `Err` nothing has changed.
+pub fn touch_for_all(
+    lists: &mut [(Name, UpdateList)],
+    at: u64,
+    uids: &[u32],
+) -> Result<(), Memory>
     requires { Rise uids.now }
     ensures ok { OnOk result (lists.new ≡ map_values (touched at uids.now) lists.old) }
+    ensures err { OnErr result (lists.new ≡ lists.old) }
     ensures spare { all_list uids.now lists.old ≡ true → IsOk result }
 {
-    for (_, list) in lists.iter_mut() {
-        touch_all(list, at, uids)?;
+    touch_from(lists, 0, at, uids)
+}
+
+/// Touches these uids on the lists from this place on. Each list is made longer before any is
+/// touched, so that nothing is touched where memory is wanted.
+fn touch_from(
+    lists: &mut [(Name, UpdateList)],
+    place: usize,
+    at: u64,
+    uids: &[u32],
+) -> Result<(), Memory>
+    requires rise { Rise uids.now }
+    requires place { place ≤ length lists.old }
+    ensures ok { OnOk result (lists.new ≡ back_mapped (touched_entry at uids.now) place lists.old) }
+    ensures err { OnErr result (lists.new ≡ lists.old) }
+    ensures spare { all_list uids.now lists.old ≡ true → IsOk result }
+{
+    if place >= lists.len() {
+        return Ok(());
+    }
+    let count = lists[place].1.count();
+    if admit(&mut lists[place].1, at, uids).is_err() {
+        lists[place].1.cut(count);
+        return Err(Memory);
+    }
+    if touch_from(lists, place + 1, at, uids).is_err() {
+        lists[place].1.cut(count);
+        return Err(Memory);
+    }
+    touch_all(&mut lists[place].1, at, uids)?;
+    Ok(())
+}
+
+/// Puts those of the uids on the list that aren't there, behind the others.
+fn admit(list: &mut UpdateList, at: u64, uids: &[u32]) -> Result<(), Memory>
+    ensures grown { Grown uids.now list.old list.new }
+    ensures ok { OnOk result (are_on uids.now list.new ≡ true) }
+    ensures spare { are_on uids.now list.old ≡ true → IsOk result }
+{
+    for uid in uids {
+        if list.stamp(*uid).is_some() {
+            continue;
+        }
+        list.touch(at, *uid)?;
     }
     Ok(())
 }
 
-/// Touches these uids, which rise, for one client, where it has a list.
+/// Touches these uids, which rise, for one client, where it has a list. After `Err` nothing has
+/// changed.
 pub fn touch_for(
     lists: &mut [(Name, UpdateList)],
     at: u64,
@@ -30,13 +78,29 @@ pub fn touch_for(
     uids: &[u32],
 ) -> Result<(), Memory>
     requires { Rise uids.now }
-    ensures { let list = unwrap_or (lookup (same client.now) lists.old) [] in
+    ensures ok { let list = unwrap_or (lookup (same client.now) lists.old) [] in
         OnOk result (lists.new ≡ set_value (same client.now) lists.old (touched at uids.now list)) }
+    ensures err { OnErr result (lists.new ≡ lists.old) }
 {
     let Some(index) = index_of(lists, client) else {
         return Ok(());
     };
-    touch_all(&mut lists[index].1, at, uids)?;
+    touch_whole(&mut lists[index].1, at, uids)?;
+    Ok(())
+}
+
+/// Touches these uids, which rise. After `Err` nothing has changed.
+fn touch_whole(list: &mut UpdateList, at: u64, uids: &[u32]) -> Result<(), Memory>
+    requires { Rise uids.now }
+    ensures ok { OnOk result (list.new ≡ touched at uids.now list.old) }
+    ensures err { OnErr result (list.new ≡ list.old) }
+{
+    let count = list.count();
+    if admit(list, at, uids).is_err() {
+        list.cut(count);
+        return Err(Memory);
+    }
+    touch_all(list, at, uids)?;
     Ok(())
 }
 
