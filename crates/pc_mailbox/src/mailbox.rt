@@ -21,7 +21,7 @@ const MOST_LISTS: usize = 4_294_967_295;
 
 /// The messages that live under a mailbox name, the last uid given, and each client's update list.
 /// The number of the entry that changes it is passed as `at`; it is past all earlier ones, but for
-/// one `add` or `add_client` after the other.
+/// one `add` or `add_client` after the other. After `Err` a mailbox is as it was.
 #[derive(Drop)]
 pub struct Mailbox {
     highest: u32,
@@ -69,6 +69,7 @@ impl Mailbox {
         requires room { length self.old.messages < MOST_MESSAGES }
         ensures mailbox { let kept = kept_as (suc self.old.highest) flags message.now in
             OnOk result (self.new ≡ with_message at kept self.old) }
+        ensures err { OnErr result (self.new ≡ self.old) }
         ensures uid { IfOk result (λ uid. uid ≡ suc self.old.highest) }
     {
         let uid = self.highest + 1;
@@ -90,6 +91,7 @@ impl Mailbox {
         requires lives { is_some (kept_at uid self.old.messages) ≡ true }
         requires flag { flag < 16 }
         ensures mailbox { OnOk result (self.new ≡ with_flag_set at uid flag on self.old) }
+        ensures err { OnErr result (self.new ≡ self.old) }
         ensures spare { all_list (uid ∷ []) self.old.lists ≡ true → IsOk result }
     {
         let changed = [uid];
@@ -101,6 +103,7 @@ impl Mailbox {
     /// Takes away the messages whose flag 0 is on, and answers how many.
     pub fn expunge(&mut self, alloc: Global, at: u64) -> Result<u32, Memory>
         ensures mailbox { OnOk result (self.new ≡ expunged at self.old) }
+        ensures err { OnErr result (self.new ≡ self.old) }
         ensures count { IfOk result (λ count. count ≡ length (deleted self.old.messages)) }
     {
         let gone = messages::uids_of_deleted(alloc, &self.messages)?;
@@ -112,7 +115,8 @@ impl Mailbox {
 
     /// Takes away all messages.
     pub fn drop_all(&mut self, alloc: Global, at: u64) -> Result<(), Memory>
-        ensures { OnOk result (self.new ≡ emptied at self.old) }
+        ensures mailbox { OnOk result (self.new ≡ emptied at self.old) }
+        ensures err { OnErr result (self.new ≡ self.old) }
     {
         let uids = messages::uids_of_all(alloc, &self.messages)?;
         update_lists::touch_for_all(&mut self.lists, at, &uids)?;
@@ -144,7 +148,8 @@ impl Mailbox {
 
     /// Puts all that lives on the list of a client.
     pub fn touch_all(&mut self, alloc: Global, at: u64, client: Name) -> Result<(), Memory>
-        ensures { OnOk result (self.new ≡ reset_for at client self.old) }
+        ensures mailbox { OnOk result (self.new ≡ reset_for at client self.old) }
+        ensures err { OnErr result (self.new ≡ self.old) }
     {
         let uids = messages::uids_of_all(alloc, &self.messages)?;
         update_lists::touch_for(&mut self.lists, at, &client, &uids)
