@@ -1,0 +1,14 @@
+//! A mailbox: its messages, and for each client the changes that it hasn't taken yet.
+#![tactic(auto)]
+
+mod mailbox;
+mod messages;
+mod shown;
+mod update_list;
+mod update_lists;
+
+pub use mailbox::Mailbox;
+pub use shown::Shown;
+
+#[cfg(test)]
+mod tests;

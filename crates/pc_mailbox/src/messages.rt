@@ -1,0 +1,112 @@
+//! The messages of a mailbox, by rising uid.
+
+ghost use Rattle.std.specs.Prelude.{◌≡◌, ◌*◌, ◌≤◌, ◌<◌, true, map, length, option_copied, [], ◌∷◌, ◌++◌, OnOk, IfOk};
+ghost use Rattle.std.specs.List.{list_any, find};
+ghost use Rattle.pc_history.specs.Record.{kept_at};
+ghost use Rattle.pc_history.specs.Step.{uids_of};
+ghost use Rattle.pc_mailbox.specs.Mailbox.{weight_of_all, is_deleted, deleted, described, is_between, with_flag_at, remaining};
+
+use pc_base::Memory;
+use pc_history::{Kept, MOST_MESSAGES, is_on, with_flag};
+use pc_message::{Change, Changes, describe};
+use std::alloc::Global;
+
+/// The message with this uid, if it lives.
+pub fn find(messages: &[Kept], uid: u32) -> Option<&Kept>
+    ensures { option_copied result ≡ kept_at uid messages.now }
+{
+    messages.iter().find(|kept| kept.uid == uid)
+}
+
+/// The uids of the messages, in order.
+pub fn uids_of_all(alloc: Global, messages: &[Kept]) -> Result<Vec<u32>, Memory>
+    ensures { IfOk result (λ uids. uids.items ≡ uids_of messages.now) }
+{
+    Ok(messages.iter().map(|kept| kept.uid).collect(alloc)?)
+}
+
+/// The uids of the messages whose flag 0 is on, in order.
+pub fn uids_of_deleted(alloc: Global, messages: &[Kept]) -> Result<Vec<u32>, Memory>
+    ensures { IfOk result (λ uids. uids.items ≡ uids_of (deleted messages.now)) }
+{
+    let gone = messages.iter().filter(|kept| is_on(kept.flags, 0));
+    Ok(gone.map(|kept| kept.uid).collect(alloc)?)
+}
+
+/// Whether flag 0 of a message is on.
+pub fn any_deleted(messages: &[Kept]) -> bool
+    ensures { result ≡ list_any is_deleted messages.now }
+{
+    messages.iter().any(|kept| is_on(kept.flags, 0))
+}
+
+/// What the messages count for.
+pub fn weight_of(messages: &[Kept]) -> u32
+    requires { length messages.now ≤ MOST_MESSAGES }
+    ensures weight { result ≡ weight_of_all messages.now }
+    ensures bound { result ≤ 65792 * length messages.now }
+{
+    let mut weight = 0;
+    for kept in messages {
+        weight += kept.message.weight();
+    }
+    weight
+}
+
+/// The descriptors of the messages from one uid to another.
+pub fn describe_all(
+    alloc: Global,
+    messages: &[Kept],
+    low: u32,
+    high: u32,
+) -> Result<Changes, Memory>
+    ensures { IfOk result (λ changes. changes ≡ described low high messages.now) }
+{
+    let mut changes = Changes::new(alloc);
+    for kept in messages {
+        describe_one(alloc, &mut changes, kept, low, high)?;
+    }
+    Ok(changes)
+}
+
+fn describe_one(
+    alloc: Global,
+    changes: &mut Changes,
+    kept: &Kept,
+    low: u32,
+    high: u32,
+) -> Result<(), Memory>
+    ensures { OnOk result (changes.new ≡ changes.old ++ described low high (kept.now ∷ [])) }
+{
+    if low <= kept.uid && kept.uid <= high {
+        let descriptor = describe(alloc, &kept.message, kept.uid, kept.flags)?;
+        changes.push(Change::Present(descriptor))?;
+    }
+    Ok(())
+}
+
+/// Sets a flag of the message with this uid.
+pub fn set_flag(messages: &mut [Kept], uid: u32, flag: u8, on: bool)
+    requires { flag < 16 }
+    ensures { messages.new ≡ map (with_flag_at uid flag on) messages.old }
+{
+    for kept in messages.iter_mut() {
+        set_flag_of(kept, uid, flag, on);
+    }
+}
+
+fn set_flag_of(kept: &mut Kept, uid: u32, flag: u8, on: bool)
+    requires { flag < 16 }
+    ensures { kept.new ≡ with_flag_at uid flag on kept.old }
+{
+    if kept.uid == uid {
+        kept.flags = with_flag(kept.flags, flag, on);
+    }
+}
+
+/// Takes away the messages whose flag 0 is on.
+pub fn drop_deleted(messages: &mut Vec<Kept>)
+    ensures { messages.new.items ≡ remaining messages.old.items }
+{
+    messages.retain(|kept| !is_on(kept.flags, 0));
+}
