@@ -12,11 +12,7 @@ use pc_base::{Memory, Name};
 use std::alloc::Global;
 
 /// Touches these uids, which rise, for every client. After `Err` nothing has changed.
-pub fn touch_for_all(
-    lists: &mut [(Name, UpdateList)],
-    at: u64,
-    uids: &[u32],
-) -> Result<(), Memory>
+pub fn touch_for_all(lists: &mut [(Name, UpdateList)], at: u64, uids: &[u32]) -> Result<(), Memory>
     requires { Rise uids.now }
     ensures ok { OnOk result (lists.new ≡ map_values (touched at uids.now) lists.old) }
     ensures err { OnErr result (lists.new ≡ lists.old) }
