@@ -1,5 +1,5 @@
 -- Lists that are made longer before they are touched.
-use Rattle.std.proofs.Common.{◌≡◌, ℕ, zero, suc, ◌+◌, ◌<◌, ◌≤◌, nat_eq, ◌==◌, Bool, true, false, not, cond, ◌&&◌, ◌||◌, List, [], ◌∷◌, ◌++◌, map, take, length, get_or, refl, sym, ap, ◌∙◌, arith, append_assoc, Result, Ok, Err, OnOk, OnErr, IsOk, is_err}
+use Rattle.std.proofs.Common.{◌≡◌, ℕ, zero, suc, ◌+◌, ◌<◌, ◌≤◌, ◌==◌, Bool, true, false, not, ◌||◌, List, [], ◌∷◌, ◌++◌, take, length, get_or, refl, sym, ap, ◌∙◌, arith, append_assoc, Result, Ok, Err, OnOk, OnErr, IsOk, is_err}
 use Rattle.std.proofs.Math.ListN.{set}
 use Rattle.std.proofs.Math.Seq.{take-append_seam}
 use Rattle.std.specs.List.{list_all}
@@ -9,7 +9,7 @@ use Rattle.std.proofs.lemmas.List.Folds.{list_all-append}
 use Rattle.pc_history.specs.declared.kept.Listed.{Listed}
 use Rattle.pc_history.specs.Table.{has_number}
 use Rattle.pc_history.specs.Step.{without, touched, stamped}
-use Rattle.pc_mailbox.specs.UpdateList.{is_on, are_on, all_list, Grown, back_mapped, touched_entry}
+use Rattle.pc_mailbox.specs.UpdateList.{is_on, are_on, Grown, back_mapped, touched_entry}
 use Rattle.pc_mailbox.proofs.Touches.{filter-append, or-false, on-cons, on-append, and-first, and-second}
 
 -- ---- one list

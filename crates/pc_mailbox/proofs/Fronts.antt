@@ -1,16 +1,14 @@
 -- Loops over lists: what is done of a list so far.
-use Rattle.std.proofs.Common.{◌≡◌, ℕ, zero, suc, ◌+◌, ◌<◌, Bool, true, false, cond, List, [], ◌∷◌, ◌++◌, map, take, length, get_or, refl, sym, ap, ◌∙◌, arith}
+use Rattle.std.proofs.Common.{◌≡◌, ℕ, zero, suc, ◌+◌, ◌<◌, Bool, true, false, cond, List, [], ◌∷◌, ◌++◌, map, take, length, get_or, refl, sym, ap, arith}
 use Rattle.std.proofs.Math.ListN.{set}
-use Rattle.std.specs.List.{filter, list_all}
+use Rattle.std.specs.List.{filter}
 use Rattle.std.proofs.lemmas.List.{map-append, take_more}
 use Rattle.pc_message.specs.declared.descriptor.Change.{Change}
 use Rattle.pc_message.specs.declared.descriptor.Change.TheVariants.{Present}
 use Rattle.pc_message.specs.Message.{weight_of}
 use Rattle.pc_history.specs.declared.kept.Kept.{Kept}
 use Rattle.pc_history.specs.Answers.{descriptor_at}
-use Rattle.pc_history.specs.Table.{map_values}
 use Rattle.pc_mailbox.specs.Mailbox.{weight_of_all, described, is_between}
-use Rattle.pc_mailbox.proofs.Touches.{and-first, and-second}
 
 -- ---- each item is changed in its place
 
@@ -48,21 +46,8 @@ module _ {X : Type 0} (f : X → X) where
   pub front-step : (ys xs : List X) (i : ℕ) (d new : X) → ys ≡ front_mapped i xs → i < length xs → new ≡ f (get_or ys i d) → set ys i new ≡ front_mapped (i + 1) xs
   front-step ys xs i d new e lt h = rw (h, e) (front-next i xs d lt)
 
-  -- the next item is as it was
-  pub front-kept : (ys xs : List X) (i : ℕ) (d : X) → ys ≡ front_mapped i xs → d ≡ get_or ys i d → d ≡ get_or xs i d
-  front-kept ys xs i d e h = h ∙ (ap (λ (l : List X). get_or l i d) e ∙ front-at i xs d)
-
   pub front-end : (ys xs : List X) (i : ℕ) → ys ≡ front_mapped i xs → i ≡ length xs → ys ≡ map f xs
   front-end ys xs i e h = rw (e, h) (front-all xs)
-
-pub map_values-map : {X Y : Type 0} (f : X → Y) (table : List (List ℕ × X)) → map_values f table ≡ map (λ (e : List ℕ × X). (e.0, f e.1)) table
-map_values-map f [] = refl
-map_values-map {X = X} {Y = Y} f (e ∷ table) = ap (λ (l : List (List ℕ × Y)). (e.0, f e.1) ∷ l) (map_values-map f table)
-
-pub list_all-at : {X : Type 0} (p : X → Bool) (xs : List X) (i : ℕ) (d : X) → list_all p xs ≡ true → i < length xs → p (get_or xs i d) ≡ true
-list_all-at p [] i d h lt = absurd (omega (arith, lt))
-list_all-at p (x ∷ xs) zero d h lt = and-first (p x) (list_all p xs) h
-list_all-at p (x ∷ xs) (suc i) d h lt = list_all-at p xs i d (and-second (p x) (list_all p xs) h) (omega (arith, lt))
 
 -- ---- what the messages so far weigh
 

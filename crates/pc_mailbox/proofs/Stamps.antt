@@ -119,24 +119,6 @@ no_room-by false found h k = sym h ∙ k
 pub no_room : (uid : ℕ) (es : List (ℕ × ℕ)) → has_room uid es ≡ false → is_on (changes_of es) uid ≡ true → false ≡ true
 no_room uid es full on = let found = found-on uid es on in no_room-by (nat_lt (length es) 4294967295) (is_some (lookup (nat_eq uid) es)) full found
 
-take-none-listed : (rest : List Listed) → take 0 rest ≡ []
-take-none-listed [] = refl
-take-none-listed (listed ∷ rest) = refl
-
-take-front : (front rest : List Listed) → take (length front) (front ++ rest) ≡ front
-take-front [] rest = take-none-listed rest
-take-front (listed ∷ front) rest = ap (λ (l : List Listed). listed ∷ l) (take-front front rest)
-
--- a front is what is taken of the whole
-pub front-taken : (front rest whole : List Listed) → front ++ rest ≡ whole → take (length front) whole ≡ front
-front-taken front rest whole e = rw (← e) (take-front front rest)
-
-pub take-all-listed : (count : ℕ) (whole : List Listed) → length whole ≤ count → take count whole ≡ whole
-take-all-listed zero [] h = refl
-take-all-listed (suc count) [] h = refl
-take-all-listed zero (listed ∷ whole) h = absurd (omega (arith, h))
-take-all-listed (suc count) (listed ∷ whole) h = ap (λ (l : List Listed). listed ∷ l) (take-all-listed count whole (omega (arith, h)))
-
 pub changes_of-take : (count : ℕ) (es : List (ℕ × ℕ)) → changes_of (take count es) ≡ take count (changes_of es)
 changes_of-take zero [] = refl
 changes_of-take zero (e ∷ es) = refl

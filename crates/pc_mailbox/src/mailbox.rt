@@ -127,14 +127,16 @@ impl Mailbox {
 
     /// Begins the list of a client, with all that lives on it.
     pub fn add_client(&mut self, alloc: Global, at: u64, client: Name) -> Result<(), Memory>
-        ensures { OnOk result (self.new ≡ with_client at client self.old) }
+        ensures mailbox { OnOk result (self.new ≡ with_client at client self.old) }
+        ensures err { OnErr result (self.new ≡ self.old) }
     {
         let uids = messages::uids_of_all(alloc, &self.messages)?;
         let list = update_lists::list_with(alloc, at, &uids)?;
-        update_lists::remove(&mut self.lists, &client);
         if self.lists.len() >= MOST_LISTS {
             return Err(Memory);
         }
+        self.lists.reserve(1)?;
+        update_lists::remove(&mut self.lists, &client);
         self.lists.push((client, list))?;
         Ok(())
     }

@@ -1,6 +1,7 @@
 //! The update lists of all clients of a mailbox, in the clients' order.
 
 ghost use Rattle.std.specs.Prelude.{◌≡◌, ◌≤◌, true, [], length, unwrap_or, option_map, option_copied, position, OnOk, OnErr, IfOk, IsOk};
+ghost use Rattle.std.specs.Vec.{vec_len, vec_capacity};
 ghost use Rattle.std.specs.Map.{lookup, set_value};
 ghost use Rattle.pc_history.specs.Table.{same, map_values, others};
 ghost use Rattle.pc_history.specs.Step.{without, touched, stamped};
@@ -11,11 +12,7 @@ use pc_base::{Memory, Name};
 use std::alloc::Global;
 
 /// Touches these uids, which rise, for every client. After `Err` nothing has changed.
-pub fn touch_for_all(
-    lists: &mut [(Name, UpdateList)],
-    at: u64,
-    uids: &[u32],
-) -> Result<(), Memory>
+pub fn touch_for_all(lists: &mut [(Name, UpdateList)], at: u64, uids: &[u32]) -> Result<(), Memory>
     requires { Rise uids.now }
     ensures ok { OnOk result (lists.new ≡ map_values (touched at uids.now) lists.old) }
     ensures err { OnErr result (lists.new ≡ lists.old) }
@@ -173,6 +170,8 @@ pub fn list_with(alloc: Global, at: u64, uids: &[u32]) -> Result<UpdateList, Mem
 pub fn remove(lists: &mut Vec<(Name, UpdateList)>, client: &Name)
     ensures others { lists.new.items ≡ others client.now lists.old.items }
     ensures bound { length lists.new.items ≤ length lists.old.items }
+    ensures len { vec_len lists.new ≤ vec_len lists.old }
+    ensures capacity { vec_capacity lists.new ≡ vec_capacity lists.old }
 {
     lists.retain(|entry| *client != entry.0);
 }

@@ -1,7 +1,7 @@
-use Rattle.std.proofs.Common.{◌≡◌, true, true≢false, is_some, sym, ap, ◌∙◌}
+use Rattle.std.proofs.Common.{true≢false, is_some, sym, ap, ◌∙◌}
 use Rattle.pc_mailbox.specs.UpdateList.{is_on}
 use Rattle.pc_mailbox.proofs.Touches.{list_all-at}
-use Rattle.pc_mailbox.proofs.Admitted.{grown-none, grown-touch, grown-on, number-at, on-next, on-touch}
+use Rattle.pc_mailbox.proofs.Admitted.{grown-touch, grown-on, number-at, on-touch}
 use Rattle.pc_mailbox.proofs.update_lists.admit.Goals as goal
 
 pub loop-uid-preserved : goal.loop-uid-preserved

@@ -1,4 +1,4 @@
-use Rattle.std.proofs.Common.{◌≤◌, length, sym, arith}
+use Rattle.std.proofs.Common.{◌≤◌, length, arith}
 use Rattle.pc_mailbox.proofs.Stamps.{cut-front}
 use Rattle.pc_mailbox.proofs.update_list.UpdateList.cut.Goals as goal
 
