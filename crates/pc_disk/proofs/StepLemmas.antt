@@ -1,5 +1,5 @@
 -- The moments of a device call and its sync, over a disk that was settled.
-use Rattle.std.proofs.Common.{◌≡◌, ◌+◌, ◌≤◌, ℕ, sym, subst, arith}
+use Rattle.std.proofs.Common.{◌≡◌, ◌+◌, ℕ, sym, subst}
 use Rattle.pc_disk.specs.Images.{Images}
 use Rattle.pc_disk.specs.Outcomes.{Only, Follows, Keeps, Elapses, LeavesOnly}
 use Rattle.pc_disk.proofs.Runs.{started, goes_on}
