@@ -10,4 +10,5 @@ pub mod ItemLemmas
 pub mod ChangeLemmas
 pub mod ReadingLemmas
 pub mod RowLemmas
+pub mod SentLemmas
 mod Samples
