@@ -11,4 +11,5 @@ pub mod ChangeLemmas
 pub mod ReadingLemmas
 pub mod RowLemmas
 pub mod SentLemmas
+pub mod SpellLemmas
 mod Samples
