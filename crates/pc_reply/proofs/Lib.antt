@@ -12,4 +12,5 @@ pub mod ReadingLemmas
 pub mod RowLemmas
 pub mod SentLemmas
 pub mod SpellLemmas
+pub mod ToldLemmas
 mod Samples
