@@ -219,3 +219,54 @@ item_tells head contents lines whole part line place new (Ok (Bad found)) (first
     (subst (λ (n : ℕ). FitsNone (whole ++ part) n) (sym same) first_fault, ap (λ (state : ReplyState). state.progress) after ∙ ap stopped (sym same))
 item_tells head contents lines whole part line place new (Err memory) made are at one ended spells fits size (apart, enough, after) =
     ap (λ (state : ReplyState). state.progress) after
+
+-- a whole line within its limit is taken
+whole_tells : (progress : Progress) (lines : List (List ℕ)) (whole part : List ℕ) (place : ℕ) (new : ReplyState) (result : Result ReplyNext Memory) → Makes progress lines → AreSpellings whole lines → place ≡ length whole → IsOneLine part → has_feed part ≡ true → is_past (fed (limit_behind whole) part) ≡ false → TakesWhole (state_of progress place whole part) progress (without_return (take (limit_behind whole + 2) (before_feed part))) new result → Tells (whole ++ part) new result
+whole_tells no_line lines whole part place new result made are at one ended short taken =
+    let line = whole_line (limit_behind whole) part one ended short in
+    head_tells lines whole part (without_return (take (limit_behind whole + 2) (before_feed part))) place new result made are at one ended line.0 line.1 line.2 taken
+whole_tells (listing head contents) lines whole part place new result made are at one ended short taken =
+    let line = whole_line (limit_behind whole) part one ended short in
+    item_tells head contents lines whole part (without_return (take (limit_behind whole + 2) (before_feed part))) place new result made are at one ended line.0 line.1 line.2 taken
+whole_tells (stopped at) lines whole part place new result made are is one ended short taken = absurd made
+whole_tells wanting lines whole part place new result made are is one ended short taken = absurd made
+
+-- the next line is taken, waited for or refused
+going_tells : (progress : Progress) (lines : List (List ℕ)) (whole part : List ℕ) (place : ℕ) (new : ReplyState) (result : Result ReplyNext Memory) → Makes progress lines → AreSpellings whole lines → place ≡ length whole → IsOneLine part → TakesNext (state_of progress place whole part) new result → Tells (whole ++ part) new result
+unfolding state_of
+going_tells progress lines whole part place new result made are at one taken =
+    by_past (is_past (fed (limit_behind whole) part)) refl taken
+  where
+    waits : has_feed part ≡ false → is_past (fed (limit_behind whole) part) ≡ false → (result ≡ Ok More) × (new ≡ record { progress = progress; place = place; line = fed (limit_behind whole) part }) → Tells (whole ++ part) new result
+    waits unended short (is, same) =
+        let little : length (without_return part) ≤ limit_behind whole = omega (arith, short_line (limit_behind whole) part short, ap (λ bytes. length (without_return bytes)) (before_feed-open part unended)) in
+        let still : HasCome (record { progress = progress; place = place; line = fed (limit_behind whole) part }) (whole ++ part) = record { lines = lines; whole = whole; part = part; split = refl; spelled = are; makes = made; place = at; line = refl; one = one } in
+        let told : Tells (whole ++ part) new (Ok More) = (record { whole = whole; part = part; split = refl; unended = unended; begins = begins progress lines whole made are; short = little }, subst (λ (state : ReplyState). HasCome state (whole ++ part)) (sym same) still) in
+        subst (λ (answer : Result ReplyNext Memory). Tells (whole ++ part) new answer) (sym is) told
+
+    by_whole : (w : Bool) → has_feed part ≡ w → is_past (fed (limit_behind whole) part) ≡ false → MatchBool w (TakesWhole (record { progress = progress; place = place; line = fed (limit_behind whole) part }) progress (without_return (take (limit_behind whole + 2) (before_feed part))) new result) ((result ≡ Ok More) × (new ≡ record { progress = progress; place = place; line = fed (limit_behind whole) part })) → Tells (whole ++ part) new result
+    by_whole true ended short taken = whole_tells progress lines whole part place new result made are at one ended short taken
+    by_whole false unended short taken = waits unended short taken
+
+    by_past : (b : Bool) → is_past (fed (limit_behind whole) part) ≡ b → MatchBool b ((next : ReplyNext) × ((result ≡ Ok next) × Stops (record { progress = progress; place = place; line = fed (limit_behind whole) part }) new next)) (MatchBool (has_feed part) (TakesWhole (record { progress = progress; place = place; line = fed (limit_behind whole) part }) progress (without_return (take (limit_behind whole + 2) (before_feed part))) new result) ((result ≡ Ok More) × (new ≡ record { progress = progress; place = place; line = fed (limit_behind whole) part }))) → Tells (whole ++ part) new result
+    by_past true past (next, (is, (stops, same))) =
+        let told : Tells (whole ++ part) new (Ok (Bad place)) = (stops_long progress lines whole part place made are at one past, ap (λ (state : ReplyState). state.progress) same) in
+        subst (λ (answer : Result ReplyNext Memory). Tells (whole ++ part) new answer) (sym (is ∙ ap Ok stops)) told
+    by_past false short taken = by_whole (has_feed part) refl short taken
+
+-- a call of `next` tells what is true of the bytes
+state_tells : (progress : Progress) (lines : List (List ℕ)) (whole part : List ℕ) (place : ℕ) (new : ReplyState) (result : Result ReplyNext Memory) → Makes progress lines → AreSpellings whole lines → place ≡ length whole → IsOneLine part → Nexts (state_of progress place whole part) progress new result → Tells (whole ++ part) new result
+state_tells no_line lines whole part place new result made are at one nexts = going_tells no_line lines whole part place new result made are at one nexts
+state_tells (listing head contents) lines whole part place new result made are at one nexts = going_tells (listing head contents) lines whole part place new result made are at one nexts
+state_tells (stopped where_) lines whole part place new result made are at one nexts = absurd made
+state_tells wanting lines whole part place new result made are at one nexts = absurd made
+
+pub next_tells : (old new : ReplyState) (bytes : List ℕ) (result : Result ReplyNext Memory) → HasCome old bytes → Nexts old old.progress new result → Tells bytes new result
+unfolding state_of
+next_tells old new bytes result come nexts =
+    let same : old ≡ state_of old.progress old.place come.whole come.part = ap (λ line. state_with old.progress old.place line) come.line in
+    let moved_on : Nexts (state_of old.progress old.place come.whole come.part) old.progress new result = subst (λ (state : ReplyState). Nexts state old.progress new result) same nexts in
+    subst (λ (bytes : List ℕ). Tells bytes new result) (sym come.split) (state_tells old.progress come.lines come.whole come.part old.place new result come.makes come.spelled come.place come.one moved_on)
+  where
+    state_with : Progress → ℕ → FeedState → ReplyState
+    state_with progress place line = record { progress = progress; place = place; line = line }
