@@ -13,4 +13,5 @@ pub mod RowLemmas
 pub mod SentLemmas
 pub mod SpellLemmas
 pub mod ToldLemmas
+pub mod ExactLemmas
 mod Samples
