@@ -10,4 +10,8 @@ pub mod ItemLemmas
 pub mod ChangeLemmas
 pub mod ReadingLemmas
 pub mod RowLemmas
+pub mod SentLemmas
+pub mod SpellLemmas
+pub mod ToldLemmas
+pub mod ExactLemmas
 mod Samples

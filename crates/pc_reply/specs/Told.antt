@@ -1,5 +1,5 @@
 -- What a reply feed tells of the bytes that came since the last reply.
-use Rattle.std.specs.Prelude.{◌≡◌, ℕ, ◌≤◌, ◌<◌, ◌==◌, true, false, IsTrue, List, [], ◌∷◌, ◌++◌, ◌⊎◌, length, if◌then◌else◌}
+use Rattle.std.specs.Prelude.{◌≡◌, ℕ, ◌≤◌, ◌<◌, ◌==◌, true, false, IsTrue, List, [], ◌∷◌, ◌++◌, ◌⊎◌, length, if◌then◌else◌, Result, Ok, Err}
 use Rattle.std.specs.List.{AllZip}
 use Rattle.pc_wire.specs.Lines.{has_feed, before_feed, without_return, AreSpellings}
 use Rattle.pc_wire.specs.LineFeed.{fed}
@@ -7,7 +7,8 @@ use Rattle.pc_wire.specs.Body.{Carries}
 use Rattle.pc_wire.specs.BodyFeed.{all_fit}
 use Rattle.pc_reply.specs.Head.{IsHead, has_list}
 use Rattle.pc_reply.specs.Reply.{IsReply, list_fits}
-use Rattle.pc_reply.specs.ReplyFeed.{Progress, no_line, listing, stopped, wanting, ReplyState}
+use Rattle.pc_reply.specs.ReplyFeed.{Progress, no_line, listing, stopped, wanting, ReplyState, begun}
+use Rattle.pc_base.specs.declared.failure.Memory.{Memory}
 use Rattle.pc_reply.specs.declared.reply.Reply.{Reply}
 use Rattle.pc_reply.specs.declared.reply_feed.ReplyNext.{ReplyNext}
 use Rattle.pc_reply.specs.declared.reply_feed.ReplyNext.TheVariants.{Whole, More, Bad}
@@ -75,3 +76,10 @@ pub record HasCome (state : ReplyState) (bytes : List ℕ) : Type 0 where
   pub place : state.place ≡ length whole
   pub line : state.line ≡ fed (limit_behind whole) part
   pub one : IsOneLine part
+
+-- what a call of `next` tells of the bytes that came, and what the feed holds then
+abbrev pub Tells : List ℕ → ReplyState → Result ReplyNext Memory → Type 0
+Tells bytes new (Ok (Whole reply)) = IsReply reply bytes × (new ≡ begun)
+Tells bytes new (Ok More) = GoesOn bytes × HasCome new bytes
+Tells bytes new (Ok (Bad place)) = FitsNone bytes place × (new.progress ≡ stopped place)
+Tells bytes new (Err memory) = new.progress ≡ wanting

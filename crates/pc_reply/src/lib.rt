@@ -5,6 +5,7 @@ mod first_line;
 mod flags;
 mod head;
 mod items;
+pub mod laws;
 mod parts;
 mod reading;
 mod reply;
