@@ -1,6 +1,5 @@
 -- Changes and their lines: one change a front, and the line at which none goes on.
-use Rattle.std.proofs.Common.{◌≡◌, ℕ, zero, suc, ◌+◌, ◌-◌, ◌<◌, ◌≤◌, ◌^◌, ◌==◌, Bool, true, false, ◌||◌, min, All, List, [], ◌∷◌, ◌++◌, length, map, take, drop, get_or, replicate, refl, sym, ap, subst, ◌∙◌, arith, append_assoc, append-nil, length-append, one-add, inl, inr, Ok, Err}
-use Rattle.std.specs.List.{list_any}
+use Rattle.std.proofs.Common.{◌≡◌, ℕ, zero, suc, ◌+◌, ◌-◌, ◌<◌, ◌≤◌, Bool, true, false, min, List, [], ◌∷◌, ◌++◌, length, take, drop, get_or, replicate, refl, sym, ap, subst, ◌∙◌, arith, length-append, one-add, inl, inr, Ok, Err}
 use Rattle.std.proofs.lemmas.List.{get_or-take, get_or_default, length-take, length-take-le, length-replicate, take_all}
 use Rattle.std.proofs.lemmas.Bool.{cases_lt, false≢true}
 use Rattle.std.proofs.Math.ListN.{get_or-append}
@@ -8,7 +7,7 @@ use Rattle.std.proofs.Math.Seq.{get_or-append_right}
 use Rattle.pc_message.specs.declared.descriptor.Descriptor.{Descriptor}
 use Rattle.pc_message.specs.declared.descriptor.Change.{Change}
 use Rattle.pc_message.specs.declared.descriptor.Change.TheVariants.{Present, Expunged}
-use Rattle.pc_reply.specs.Lists.{IsNew, IsBadItem}
+use Rattle.pc_reply.specs.Lists.{IsBadItem}
 use Rattle.pc_reply.specs.Items.{counts_text, gone_text, descriptor_lines, change_lines, uid_of, IsShort, DescriptorFits, ChangeFits}
 use Rattle.pc_reply.specs.FirstLine.{first_text, FirstFits, IsFirst, first_uid}
 use Rattle.pc_reply.specs.Changes.{HasShort, ReadsItem, ReadsFirst}
@@ -27,8 +26,8 @@ short_up_to lines cut place line text is below short here same long =
       within = omega arith;
       short = λ k less. subst IsShort (get_or-take cut lines k [] (omega arith)) (short k less);
       long = λ _ _.
-        let at : text ≡ get_or lines place [] = same ∙ here ∙ get_or_default (take cut lines) place line [] below ∙ get_or-take cut lines place [] (omega arith) in
-        omega (arith, ap length at, long);
+          let at : text ≡ get_or lines place [] = same ∙ here ∙ get_or_default (take cut lines) place line [] below ∙ get_or-take cut lines place [] (omega arith) in
+          omega (arith, ap length at, long);
     }
 
 -- the first line of a change, and the texts behind it
@@ -105,8 +104,8 @@ bad_first known line rest none = record {
   some = omega arith;
   before = λ less. absurd (omega arith);
   here = λ _ change more other new e.
-    let first = none (first_of change) (first_is change line more other new.0 e) in
-    false≢true (sym new.1 ∙ ap known (sym (uid_first change)) ∙ first);
+      let first = none (first_of change) (first_is change line more other new.0 e) in
+      false≢true (sym new.1 ∙ ap known (sym (uid_first change)) ∙ first);
   end = λ at. absurd (omega arith);
 }
 
@@ -178,23 +177,24 @@ bad_text_at known line uid flags bytes lines texts count is new has below = reco
   within = omega (arith, has.within);
   some = omega arith;
   before = λ _.
-    let filled = take count texts ++ replicate (4 - count) no_text in
-    let count_of : length filled ≡ 4 = omega (arith, length-append (take count texts) (replicate (4 - count) no_text), length-take-le count texts has.within, length-replicate (4 - count) no_text) in
-    let made = with_texts uid flags bytes lines filled is.1 count_of (filled_short texts count has) in
-    (Present made.0, (replicate (4 - count) no_text, ((made.1.0, ap known made.1.2 ∙ new), made.1.1 ∙ ap (λ first. first ∷ filled) (sym is.0))));
+      let filled = take count texts ++ replicate (4 - count) no_text in
+      let count_of : length filled ≡ 4 = omega (arith, length-append (take count texts) (replicate (4 - count) no_text), length-take-le count texts has.within, length-replicate (4 - count) no_text) in
+      let made = with_texts uid flags bytes lines filled is.1 count_of (filled_short texts count has) in
+      (Present made.0, (replicate (4 - count) no_text, ((made.1.0, ap known made.1.2 ∙ new), made.1.1 ∙ ap (λ first. first ∷ filled) (sym is.0))));
   here = λ less change more other unknown e.
-    let more_by_one : suc count + 1 ≡ suc (suc count) = omega arith in
-    let longer : take (suc count + 1) (line ∷ texts) ≡ line ∷ take (suc count) texts = ap (λ n. take n (line ∷ texts)) more_by_one in
-    let present = the_present change line uid flags bytes lines more (take (suc count) texts ++ other) is unknown.0 (e ∙ ap (λ front. front ++ other) longer) in
-    let left : get_or (texts_list present.0 ++ more) count [] ≡ get_or (texts_list present.0) count [] = get_or-append (texts_list present.0) more [] count (omega (arith, four present.0)) in
-    let size : length (take (suc count) texts) ≡ suc count = length-take-le (suc count) texts (omega arith) in
-    let right : get_or (take (suc count) texts ++ other) count [] ≡ get_or texts count [] = get_or-append (take (suc count) texts) other [] count (omega (arith, size)) ∙ get_or-take (suc count) texts count [] (omega arith) in
-    let same : get_or (texts_list present.0) count [] ≡ get_or texts count [] = sym left ∙ ap (λ all. get_or all count []) present.1.1 ∙ right in
-    omega (arith, ap length same, short_text present.0 present.1.0 count below, has.long below (omega arith));
+      let more_by_one : suc count + 1 ≡ suc (suc count) = omega arith in
+      let longer : take (suc count + 1) (line ∷ texts) ≡ line ∷ take (suc count) texts = ap (λ n. take n (line ∷ texts)) more_by_one in
+      let present = the_present change line uid flags bytes lines more (take (suc count) texts ++ other) is unknown.0 (e ∙ ap (λ front. front ++ other) longer) in
+      let left : get_or (texts_list present.0 ++ more) count [] ≡ get_or (texts_list present.0) count [] = get_or-append (texts_list present.0) more [] count (omega (arith, four present.0)) in
+      let size : length (take (suc count) texts) ≡ suc count = length-take-le (suc count) texts (omega arith) in
+      let right : get_or (take (suc count) texts ++ other) count [] ≡ get_or texts count [] = get_or-append (take (suc count) texts) other [] count (omega (arith, size)) ∙ get_or-take (suc count) texts count [] (omega arith) in
+      let same : get_or (texts_list present.0) count [] ≡ get_or texts count [] = sym left ∙ ap (λ all. get_or all count []) present.1.1 ∙ right in
+      omega (arith, ap length same, short_text present.0 present.1.0 count below, has.long below (omega arith));
   end = λ at change more unknown e.
-    let present = the_present change line uid flags bytes lines more texts is unknown.0 e in
-    omega (arith, ap length present.1.1, length-append (texts_list present.0) more, four present.0);
+      let present = the_present change line uid flags bytes lines more texts is unknown.0 e in
+      omega (arith, ap length present.1.1, length-append (texts_list present.0) more, four present.0);
 }
+
 pub bad_text : (known : ℕ → Bool) (line : List ℕ) (uid flags bytes lines : ℕ) (texts : List (List ℕ)) (count : ℕ) → IsFirst (Counts uid flags bytes lines) line → known uid ≡ false → HasShort texts count → count < 4 → IsBadItem change_lines ChangeFits uid_of known (line ∷ texts) (1 + count)
 bad_text known line uid flags bytes lines texts count is new has below =
     subst (λ (at : ℕ). IsBadItem change_lines ChangeFits uid_of known (line ∷ texts) at) (sym (one-add count)) (bad_text_at known line uid flags bytes lines texts count is new has below)

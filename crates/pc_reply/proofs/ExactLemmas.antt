@@ -1,7 +1,7 @@
 -- A reply feed tells one thing of the bytes, and takes no byte past a reply.
 use Rattle.std.proofs.Common.{◌≡◌, ℕ, ◌+◌, ◌<◌, ◌≤◌, Bool, true, false, ◌||◌, ◌⊎◌, inl, inr, Ok, Err, Result, List, [], ◌∷◌, ◌++◌, length, take, drop, refl, sym, ap, subst, ◌∙◌, arith, append_assoc, append-nil, length-append}
 use Rattle.std.specs.Io.BufRead.{take_through}
-use Rattle.std.proofs.lemmas.Bool.{false≢true, cases_Bool, or_parts}
+use Rattle.std.proofs.lemmas.Bool.{false≢true, cases_Bool}
 use Rattle.std.proofs.lemmas.List.{append_cancel_left}
 use Rattle.pc_base.specs.declared.failure.Memory.{Memory}
 use Rattle.pc_wire.specs.Lines.{has_feed, before_feed, without_return, IsSpelling, AreSpellings}
@@ -12,8 +12,8 @@ use Rattle.pc_reply.specs.declared.reply.Reply.{Reply}
 use Rattle.pc_reply.specs.declared.reply_feed.ReplyNext.{ReplyNext}
 use Rattle.pc_reply.specs.declared.reply_feed.ReplyNext.TheVariants.{Whole, More, Bad}
 use Rattle.pc_reply.specs.Reply.{IsReply}
-use Rattle.pc_reply.specs.ReplyFeed.{Progress, no_line, ReplyState, begun}
-use Rattle.pc_reply.specs.Told.{limit_behind, BeginsReply, GoesOn, IsOneLine, FitsNone, IsTold, HasCome, Tells}
+use Rattle.pc_reply.specs.ReplyFeed.{ReplyState, begun}
+use Rattle.pc_reply.specs.Told.{limit_behind, GoesOn, IsOneLine, FitsNone, IsTold, HasCome, Tells}
 use Rattle.pc_reply.proofs.SpellLemmas.{peel, replies_differ}
 
 -- bytes without LF spell no line

@@ -6,7 +6,6 @@ use Rattle.pc_reply.specs.FirstLine.{IsFirst, flags_shown}
 use Rattle.pc_reply.specs.declared.first_line.FirstLine.{FirstLine}
 use Rattle.pc_reply.specs.declared.first_line.FirstLine.TheVariants.{Gone, Counts}
 use Rattle.pc_reply.proofs.FlagLemmas.{flags_shown-digits}
-use Rattle.pc_reply.proofs.PartLemmas.{first_same}
 use Rattle.pc_reply.proofs.WordTexts.{gone_words, counts_words}
 
 number_same : (n m : ℕ) → n < 2 ^ 32 → m < 2 ^ 32 → decimal n ≡ decimal m → n ≡ m

@@ -1,12 +1,12 @@
 -- A line is at most one head.
-use Rattle.std.proofs.Common.{◌≡◌, ℕ, ◌+◌, ◌-◌, ◌^◌, ◌<◌, ◌≤◌, ◌==◌, Bool, true, false, cond, ◌&&◌, nat_lt, nat_le, IsTrue, Option, Some, None, List, [], ◌∷◌, ◌++◌, length, map, take, drop, codes, decimal, refl, sym, ap, ◌∙◌, arith, lit<, length-append}
+use Rattle.std.proofs.Common.{◌≡◌, ℕ, ◌-◌, ◌^◌, ◌<◌, ◌≤◌, ◌==◌, true, false, ◌&&◌, nat_lt, nat_le, IsTrue, Some, None, List, [], ◌∷◌, ◌++◌, length, map, take, drop, codes, decimal, refl, sym, ap, ◌∙◌, arith, length-append}
 use Rattle.std.specs.List.{list_all}
 use Rattle.std.specs.Option.{option_map}
 use Rattle.std.proofs.lemmas.Bool.{and_parts}
 use Rattle.std.proofs.lemmas.Bool.Decides.{nat_tests}
 use Rattle.std.proofs.lemmas.List.{take_at, take_all}
 use Rattle.pc_base.specs.Name.{is_printed}
-use Rattle.pc_base.specs.Number.{decimal_value, is_number}
+use Rattle.pc_base.specs.Number.{decimal_value}
 use Rattle.pc_base.specs.Recipient.{shown_byte, shown_of, is_shown}
 use Rattle.pc_base.specs.Refusal.{head_of, limit_word}
 use Rattle.pc_base.specs.declared.refusal.Refusal.{Refusal}

@@ -1,7 +1,7 @@
 -- Lists as lines: how they are cut into items, and which line is the first at fault.
-use Rattle.std.proofs.Common.{◌≡◌, ℕ, zero, suc, ◌+◌, ◌<◌, ◌≤◌, Bool, true, false, not, ◌&&◌, ◌||◌, IsTrue, All, List, [], ◌∷◌, ◌++◌, length, map, take, refl, sym, ap, subst, ◌∙◌, arith, append_assoc, append-nil, length-append, add_assoc}
+use Rattle.std.proofs.Common.{◌≡◌, ℕ, zero, suc, ◌+◌, ◌<◌, Bool, true, false, not, ◌||◌, All, List, [], ◌∷◌, ◌++◌, length, map, take, refl, sym, ap, subst, ◌∙◌, arith, append_assoc, append-nil, length-append, add_assoc}
 use Rattle.std.specs.List.{flat_map, list_any}
-use Rattle.std.proofs.lemmas.Bool.{and_parts, or_parts, false≢true}
+use Rattle.std.proofs.lemmas.Bool.{and_parts, or_parts}
 use Rattle.std.proofs.lemmas.List.{map-append, length-take}
 use Rattle.std.proofs.lemmas.List.Elements.{All-head, All-tail, All-push}
 use Rattle.std.proofs.lemmas.List.Folds.{list_any-append}
@@ -83,13 +83,13 @@ module _ {T K : Type 0} (lines_of : T → List (List ℕ)) (Fits : T → Type 0)
     within = omega (arith, length-append front rest, bad.within);
     before = subst (λ (lines : List (List ℕ)). Begins Are lines) (sym (take-append-add front rest line)) (begins line bad.before);
     here = λ below (others, (other, also)).
-      let longer : take (length front + line + 1) (front ++ rest) ≡ front ++ take (line + 1) rest = ap (λ n. take n (front ++ rest)) (add_assoc (length front) line 1) ∙ take-append-add front rest (line + 1) in
-      let is : Are others (front ++ (take (line + 1) rest ++ other)) = subst (λ (lines : List (List ℕ)). Are others lines) (ap (λ lines. lines ++ other) longer ∙ append_assoc front (take (line + 1) rest) other) also in
-      let next = goes_on items others front (take (line + 1) rest ++ other) are is (omega (arith, length-append (take (line + 1) rest) other, length-take (line + 1) rest, bad.some)) in
-      bad.here (omega (arith, length-append front rest)) next.0 next.1.0 other (next.1.1.1, knows (key_of next.0) ∙ next.1.1.2) next.1.1.0;
+        let longer : take (length front + line + 1) (front ++ rest) ≡ front ++ take (line + 1) rest = ap (λ n. take n (front ++ rest)) (add_assoc (length front) line 1) ∙ take-append-add front rest (line + 1) in
+        let is : Are others (front ++ (take (line + 1) rest ++ other)) = subst (λ (lines : List (List ℕ)). Are others lines) (ap (λ lines. lines ++ other) longer ∙ append_assoc front (take (line + 1) rest) other) also in
+        let next = goes_on items others front (take (line + 1) rest ++ other) are is (omega (arith, length-append (take (line + 1) rest) other, length-take (line + 1) rest, bad.some)) in
+        bad.here (omega (arith, length-append front rest)) next.0 next.1.0 other (next.1.1.1, knows (key_of next.0) ∙ next.1.1.2) next.1.1.0;
     end = λ at others also.
-      let next = goes_on items others front rest are also bad.some in
-      bad.end (omega (arith, length-append front rest)) next.0 next.1.0 (next.1.1.1, knows (key_of next.0) ∙ next.1.1.2) next.1.1.0;
+        let next = goes_on items others front rest are also bad.some in
+        bad.end (omega (arith, length-append front rest)) next.0 next.1.0 (next.1.1.1, knows (key_of next.0) ∙ next.1.1.2) next.1.1.0;
   }
     where
       begins : (line : ℕ) → (0 < line → (item : T) × ((more : List (List ℕ)) × (IsNew Fits key_of known item × (lines_of item ≡ take line rest ++ more)))) → Begins Are (front ++ take line rest)

@@ -10,6 +10,7 @@ pub mod ItemLemmas
 pub mod ChangeLemmas
 pub mod ReadingLemmas
 pub mod RowLemmas
+pub mod CutLemmas
 pub mod SentLemmas
 pub mod SpellLemmas
 pub mod ToldLemmas

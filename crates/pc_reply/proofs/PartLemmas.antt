@@ -1,5 +1,5 @@
 -- The words of a list's line: what they are read as.
-use Rattle.std.proofs.Common.{◌≡◌, ℕ, ◌+◌, ◌^◌, ◌<◌, Bool, true, false, IsTrue, decimal, List, [], ◌∷◌, ◌++◌, length, sym, ap, subst, ◌∙◌, arith}
+use Rattle.std.proofs.Common.{◌≡◌, ℕ, ◌^◌, ◌<◌, IsTrue, decimal, List, ◌∷◌, sym, ap, ◌∙◌, arith}
 use Rattle.pc_base.specs.Number.{is_number, decimal_value}
 use Rattle.pc_wire.proofs.DecimalLemmas.{decimal_digits, is_number-decimal}
 

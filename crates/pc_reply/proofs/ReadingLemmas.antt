@@ -1,13 +1,11 @@
 -- Lists that are read item by item.
-use Rattle.std.proofs.Common.{◌≡◌, ℕ, ◌+◌, ◌-◌, ◌<◌, ◌≤◌, ◌==◌, Bool, true, false, ◌||◌, List, [], ◌∷◌, ◌++◌, length, map, take, drop, Ok, Err, refl, sym, ap, subst, ◌∙◌, arith, append_assoc, length-append, inl, inr}
-use Rattle.std.specs.Prelude.{MatchResult}
+use Rattle.std.proofs.Common.{◌≡◌, ℕ, ◌+◌, ◌-◌, ◌≤◌, ◌==◌, Bool, true, false, ◌||◌, List, [], ◌∷◌, ◌++◌, length, map, take, drop, Ok, Err, refl, sym, ap, subst, ◌∙◌, arith, append_assoc, length-append, inl, inr}
 use Rattle.std.specs.List.{list_any}
 use Rattle.std.proofs.lemmas.Bool.{cases_lt}
 use Rattle.std.proofs.lemmas.List.{take-append-drop, take_at, take_all, length-drop, length-take-le, map-append}
 use Rattle.std.proofs.lemmas.List.Folds.{list_any-append}
-use Rattle.std.proofs.Math.Seq.{take-append-add}
 use Rattle.pc_message.specs.declared.descriptor.Change.{Change}
-use Rattle.pc_reply.specs.Lists.{Begins, IsFirstFault, ReadsItems, IsBadItem}
+use Rattle.pc_reply.specs.Lists.{IsFirstFault, ReadsItems}
 use Rattle.pc_reply.specs.Items.{change_lines, uid_of, ChangeFits, AreChangeLines}
 use Rattle.pc_reply.specs.Changes.{Learns, ReadsItem, fault_after}
 use Rattle.pc_reply.specs.declared.items.ItemFault.{ItemFault}

@@ -1,5 +1,5 @@
 -- What is written for a reply is the reply.
-use Rattle.std.proofs.Common.{◌≡◌, ℕ, ◌+◌, ◌^◌, ◌<◌, ◌≤◌, Bool, true, false, cond, codes, decimal, inl, IsTrue, List, [], ◌∷◌, ◌++◌, length, map, refl, sym, ap, subst, ◌∙◌, arith, append-nil, Option, Result}
+use Rattle.std.proofs.Common.{◌≡◌, ℕ, ◌≤◌, Bool, true, false, cond, codes, decimal, inl, IsTrue, List, [], ◌∷◌, ◌++◌, length, map, refl, sym, ap, subst, ◌∙◌, arith, append-nil, Option, Result}
 use Rattle.std.specs.Prelude.{MatchBool}
 use Rattle.std.specs.List.{list_any, list_all}
 use Rattle.std.specs.Io.KnownBytes.{Appends}
@@ -14,7 +14,7 @@ use Rattle.pc_base.specs.declared.refusal.LimitWord.{LimitWord}
 use Rattle.pc_base.specs.declared.refusal.LimitWord.TheVariants as limit
 use Rattle.pc_base.specs.declared.refusal.Refusal.{Refusal}
 use Rattle.pc_base.specs.declared.refusal.Refusal.TheVariants as refused
-use Rattle.pc_wire.specs.Lines.{is_feed, has_feed, AreSpellings}
+use Rattle.pc_wire.specs.Lines.{is_feed, has_feed}
 use Rattle.pc_wire.specs.Body.{dot, sent_as, written_line, written_body}
 use Rattle.pc_wire.specs.BodyFeed.{all_fit}
 use Rattle.pc_wire.proofs.LineLemmas.{open-append}

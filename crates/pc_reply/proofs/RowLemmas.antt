@@ -1,20 +1,15 @@
 -- Mailboxes, one a line: what lines tell of them, and the line at fault.
-use Rattle.std.proofs.Common.{◌≡◌, ℕ, zero, suc, ◌+◌, ◌<◌, ◌≤◌, Bool, true, false, cond, not, ◌||◌, List, [], ◌∷◌, ◌++◌, length, map, take, drop, get_or, Some, None, Ok, Err, refl, sym, ap, subst, ◌∙◌, arith, append_assoc, length-append, add-one}
+use Rattle.std.proofs.Common.{◌≡◌, ℕ, suc, ◌+◌, ◌<◌, ◌≤◌, Bool, true, false, cond, not, ◌||◌, List, [], ◌∷◌, ◌++◌, length, map, take, drop, get_or, refl, sym, ap, subst, ◌∙◌, arith}
 use Rattle.std.specs.List.{list_any}
 use Rattle.std.specs.Str.{bytes_eq}
-use Rattle.std.specs.BTreeSet.{BTreeSet, contains}
-use Rattle.std.specs.Ordering.{nat_cmp}
-use Rattle.std.specs.Cmp.Lexicographic.{slice_cmp}
 use Rattle.std.proofs.lemmas.Bool.{false≢true}
 use Rattle.std.proofs.lemmas.List.{take-append-drop, take_all, take_more, length-take-le, map-append}
 use Rattle.std.proofs.lemmas.List.Folds.{list_any-append}
-use Rattle.std.proofs.lemmas.Map.Text.{is_eq-slice_cmp}
 use Rattle.std.proofs.Math.Seq.{drop-cons}
 use Rattle.pc_wire.proofs.DecimalLemmas.{decimal_differ}
 use Rattle.pc_reply.specs.Lists.{IsFirstFault, IsBadItem}
 use Rattle.pc_reply.specs.Items.{MailboxRow, mailbox_line, row_lines, row_name, RowFits, IsRow, AreRows, AreMailboxLines}
 use Rattle.pc_reply.proofs.ItemLemmas.{one_list, items_push, fault}
-use Rattle.pc_reply.proofs.PartLemmas.{first_same}
 use Rattle.pc_reply.proofs.WordTexts.{row_words}
 
 row_of : List ℕ → ℕ → ℕ → MailboxRow
@@ -50,8 +45,8 @@ bad_row known line rest none = record {
   some = omega arith;
   before = λ less. absurd (omega arith);
   here = λ _ row more other new e.
-    let lines : mailbox_line row ∷ more ≡ line ∷ other = e in
-    false≢true (sym new.1 ∙ none row (cc, new.0));
+      let lines : mailbox_line row ∷ more ≡ line ∷ other = e in
+      false≢true (sym new.1 ∙ none row (cc, new.0));
   end = λ at. absurd (omega arith);
 }
 

@@ -1,15 +1,14 @@
 -- What the definitions give, worked out by hand.
-use Rattle.std.proofs.Common.{◌≡◌, ℕ, ◌++◌, [], ◌∷◌, List, Some, None, true, false, map, codes, decimal, refl, inl, inr, lit<, lit≤, arith, IsTrue}
-use Rattle.std.specs.List.{flat_map}
+use Rattle.std.proofs.Common.{◌≡◌, ℕ, ◌++◌, [], ◌∷◌, true, false, codes, decimal, refl, inr, lit≤}
 use Rattle.std.specs.Str.{bytes_eq}
 use Rattle.pc_base.specs.declared.refusal.Refusal.TheVariants as refused
 use Rattle.pc_base.specs.declared.refusal.LimitWord.TheVariants as limit
-use Rattle.pc_message.specs.declared.descriptor.Change.TheVariants.{Present, Expunged}
+use Rattle.pc_message.specs.declared.descriptor.Change.TheVariants.{Expunged}
 use Rattle.pc_reply.specs.declared.head.Head.TheVariants as head
 use Rattle.pc_reply.specs.declared.items.Mode.TheVariants.{Batch}
 use Rattle.pc_reply.specs.Head.{head_text}
 use Rattle.pc_reply.specs.Reply.{IsReply, written_reply}
-use Rattle.pc_reply.specs.Items.{flag_digits, change_lines, client_text, counted_text, gone_text}
+use Rattle.pc_reply.specs.Items.{flag_digits, change_lines, client_text, counted_text}
 use Rattle.pc_reply.specs.Lists.{are_apart}
 use Rattle.pc_base.specs.Refusal.{head_of}
 

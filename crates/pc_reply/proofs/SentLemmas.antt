@@ -1,15 +1,14 @@
 -- Replies line by line: what lines make of one, and which line fits none.
-use Rattle.std.proofs.Common.{◌≡◌, ℕ, ◌+◌, ◌<◌, ◌≤◌, Bool, true, false, cond, ◌&&◌, ◌||◌, ◌⊎◌, inl, inr, nat_le, IsTrue, codes, List, [], ◌∷◌, ◌++◌, length, map, refl, sym, ap, subst, ◌∙◌, arith, append_assoc, append-nil, length-append, lit≤}
+use Rattle.std.proofs.Common.{◌≡◌, ℕ, ◌+◌, ◌<◌, ◌≤◌, Bool, true, false, nat_le, IsTrue, codes, List, [], ◌∷◌, ◌++◌, length, map, refl, sym, ap, subst, ◌∙◌, arith, append_assoc, length-append, lit≤}
 use Rattle.std.specs.Prelude.{MatchBool}
 use Rattle.std.specs.List.{AllZip, list_any, list_all}
-use Rattle.std.proofs.lemmas.Bool.{and_parts, or_parts, or_from, false≢true, eqb-true, MatchBool-at_true, MatchBool-at_false}
+use Rattle.std.proofs.lemmas.Bool.{and_parts, or_parts, false≢true, eqb-true, MatchBool-at_true, MatchBool-at_false}
 use Rattle.std.proofs.lemmas.Bool.Decides.{nat_tests}
 use Rattle.std.proofs.lemmas.List.{map-append}
-use Rattle.std.proofs.lemmas.List.Folds.{list_any-append}
 use Rattle.pc_wire.specs.Lines.{has_feed}
 use Rattle.pc_wire.specs.Body.{dot, Carries, size_of}
-use Rattle.pc_wire.specs.BodyFeed.{is_dot, content_of, all_fit, is_within}
-use Rattle.pc_wire.proofs.BodyLemmas.{Carries-content, content-Carries, AllZip-contents, contents-AllZip}
+use Rattle.pc_wire.specs.BodyFeed.{is_dot, content_of, all_fit}
+use Rattle.pc_wire.proofs.BodyLemmas.{content-Carries, AllZip-contents}
 use Rattle.pc_reply.specs.declared.head.Head.{Head}
 use Rattle.pc_reply.specs.declared.head.Head.TheVariants as head
 use Rattle.pc_reply.specs.declared.reply.Reply.{Reply}

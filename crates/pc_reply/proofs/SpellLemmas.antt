@@ -1,10 +1,8 @@
 -- Replies as bytes: spellings of lines, one after another.
-use Rattle.std.proofs.Common.{◌≡◌, ℕ, ◌+◌, ◌<◌, ◌≤◌, Bool, true, false, ◌||◌, ◌⊎◌, inl, inr, List, [], ◌∷◌, ◌++◌, length, refl, sym, ap, subst, ◌∙◌, arith, append_assoc, append-nil, length-append}
-use Rattle.std.proofs.lemmas.Bool.{or_parts, false≢true, cases_Bool}
+use Rattle.std.proofs.Common.{◌≡◌, ℕ, ◌<◌, ◌⊎◌, inl, inr, List, [], ◌∷◌, ◌++◌, length, refl, sym, ap, subst, ◌∙◌, arith, append_assoc, append-nil, length-append}
 use Rattle.std.proofs.lemmas.List.{append_cancel_left}
-use Rattle.pc_wire.specs.Lines.{has_feed, before_feed, without_return, lines_of, IsSpelling, AreSpellings}
-use Rattle.pc_wire.proofs.LineLemmas.{spelled, spellings_differ, lines_of-spellings, before_feed-feed, has_feed-append}
-use Rattle.pc_wire.proofs.FeedLemmas.{before_feed-append, before_feed-past, before_feed-open, without_return-append}
+use Rattle.pc_wire.specs.Lines.{lines_of, IsSpelling, AreSpellings}
+use Rattle.pc_wire.proofs.LineLemmas.{spelled, spellings_differ, lines_of-spellings}
 use Rattle.pc_reply.specs.declared.reply.Reply.{Reply}
 use Rattle.pc_reply.specs.Reply.{IsSentAs, IsReply}
 use Rattle.pc_reply.proofs.SentLemmas.{one_reply}

@@ -1,15 +1,13 @@
 -- What one line does to a reply feed.
-use Rattle.std.proofs.Common.{◌≡◌, ℕ, ◌+◌, ◌*◌, ◌≤◌, Bool, true, false, not, nat_le, IsTrue, Ok, List, [], ◌∷◌, ◌++◌, length, refl, sym, subst, arith, length-append, Bor}
+use Rattle.std.proofs.Common.{◌≡◌, ℕ, ◌+◌, ◌≤◌, Bool, true, false, nat_le, IsTrue, Ok, List, [], ◌∷◌, ◌++◌, length, refl, sym, subst, arith, length-append, Bor}
 use Rattle.std.specs.Prelude.{MatchBool}
 use Rattle.std.proofs.lemmas.Bool.Decides.{nat_tests}
-use Rattle.std.proofs.lemmas.Bool.{MatchBool-at_true}
 use Rattle.pc_base.specs.Line.{is_line}
 use Rattle.pc_wire.specs.Lines.{has_feed, without_return}
 use Rattle.pc_wire.specs.LineFeed.{FeedState}
 use Rattle.pc_wire.specs.Next.{ShowsLine, ShowsNext}
-use Rattle.pc_wire.specs.declared.line_feed.Next.TheVariants.{Line, More, TooLong}
-use Rattle.pc_wire.specs.BodyFeed.{BodyState, content_of}
-use Rattle.pc_reply.specs.declared.head.Head.{Head}
+use Rattle.pc_wire.specs.declared.line_feed.Next.TheVariants.{Line, More}
+use Rattle.pc_wire.specs.BodyFeed.{content_of}
 use Rattle.pc_reply.specs.declared.reply_feed.Stage.{Stage}
 use Rattle.pc_reply.specs.declared.reply_feed.Stage.TheVariants.{Begun, Listing, Stopped, Wanting}
 use Rattle.pc_reply.specs.declared.reply_feed.Step.{Step}

@@ -1,24 +1,22 @@
 -- What a reply feed tells is true of the bytes that came.
-use Rattle.std.proofs.Common.{◌≡◌, ℕ, zero, suc, ◌+◌, ◌<◌, ◌≤◌, ◌==◌, Bool, true, false, cond, ◌||◌, ◌⊎◌, inl, inr, nat_lt, nat_le, IsTrue, Ok, Err, Result, List, [], ◌∷◌, ◌++◌, length, map, take, refl, sym, ap, subst, ◌∙◌, arith, append_assoc, append-nil, length-append}
+use Rattle.std.proofs.Common.{◌≡◌, ℕ, ◌+◌, ◌<◌, ◌≤◌, ◌==◌, Bool, true, false, cond, inl, inr, nat_lt, nat_le, Ok, Err, Result, List, [], ◌∷◌, ◌++◌, length, take, refl, sym, ap, subst, ◌∙◌, arith, append_assoc, append-nil, length-append}
 use Rattle.std.specs.Prelude.{MatchBool}
-use Rattle.std.specs.List.{AllZip}
 use Rattle.std.proofs.lemmas.Bool.{false≢true, cases_Bool, cases_lt}
 use Rattle.std.proofs.lemmas.Bool.Decides.{nat_tests}
 use Rattle.std.proofs.lemmas.List.{take_all, nil_from_length}
 use Rattle.pc_base.specs.declared.failure.Memory.{Memory}
 use Rattle.pc_wire.specs.Lines.{has_feed, before_feed, without_return, IsSpelling, AreSpellings}
 use Rattle.pc_wire.specs.LineFeed.{FeedState, fed}
-use Rattle.pc_wire.specs.Body.{Carries}
-use Rattle.pc_wire.specs.BodyFeed.{is_dot, content_of, all_fit}
-use Rattle.pc_wire.proofs.LineLemmas.{spelled, spellings_differ, IsSpelling-front, before_feed-feed}
-use Rattle.pc_wire.proofs.FeedLemmas.{before_feed-append, before_feed-past, before_feed-open, open-before_feed, without_return-append, length-without_return, past_cut}
+use Rattle.pc_wire.specs.BodyFeed.{content_of}
+use Rattle.pc_wire.proofs.LineLemmas.{spelled, IsSpelling-front, before_feed-feed}
+use Rattle.pc_wire.proofs.FeedLemmas.{before_feed-append, before_feed-past, before_feed-open, open-before_feed, length-without_return}
+use Rattle.pc_reply.proofs.CutLemmas.{without_return-append, past_cut}
 use Rattle.pc_reply.specs.declared.head.Head.{Head}
 use Rattle.pc_reply.specs.declared.reply.Reply.{Reply}
 use Rattle.pc_reply.specs.declared.reply_feed.ReplyNext.{ReplyNext}
 use Rattle.pc_reply.specs.declared.reply_feed.ReplyNext.TheVariants.{Whole, More, Bad}
-use Rattle.pc_reply.specs.Head.{IsHead, has_list}
-use Rattle.pc_reply.specs.Reply.{IsReply, IsSentAs, list_fits}
-use Rattle.pc_reply.specs.ReplyFeed.{Progress, no_line, listing, stopped, wanting, ReplyState, begun, moved, TakesHead, TakesItem, TakesWhole, is_past, Stops, TakesNext, Nexts}
+use Rattle.pc_reply.specs.Reply.{IsReply, IsSentAs}
+use Rattle.pc_reply.specs.ReplyFeed.{Progress, no_line, listing, stopped, wanting, ReplyState, moved, TakesHead, TakesItem, TakesWhole, is_past, Stops, TakesNext, Nexts}
 use Rattle.pc_reply.specs.Told.{limit_behind, BeginsReply, GoesOn, IsOneLine, FitsNone, Makes, HasCome, Tells}
 use Rattle.pc_reply.proofs.SentLemmas.{none_too_much, none_too_long, none_long_head, none_no_head, ends_with, head_ends, dot_ends, carry_push, list_all-push}
 use Rattle.pc_reply.proofs.SpellLemmas.{AreSpellings-append, one_spelling, peel}
@@ -149,9 +147,9 @@ stops_whole progress lines whole part line place made are at one ended spells no
   line = one;
   over = inl ended;
   none = λ reply rest is.
-    let found = behind whole part rest lines reply are is in
-    let more = peel part rest (line ∷ []) found.0 (one_spelling part line spells) found.1.1 in
-    none reply more.0 (subst (λ (all : List (List ℕ)). IsSentAs reply (lines ++ all)) more.1.0 found.1.0);
+      let found = behind whole part rest lines reply are is in
+      let more = peel part rest (line ∷ []) found.0 (one_spelling part line spells) found.1.1 in
+      none reply more.0 (subst (λ (all : List (List ℕ)). IsSentAs reply (lines ++ all)) more.1.0 found.1.0);
 }
 
 -- a line more was taken, and the reply goes on

@@ -1,5 +1,5 @@
 -- The parts of reading changes.
-use Rattle.std.specs.Prelude.{◌≡◌, ℕ, ◌+◌, ◌<◌, ◌≤◌, ◌==◌, ◌^◌, ⊤, Bool, true, false, ◌||◌, List, [], ◌∷◌, ◌++◌, length, Result, Ok, Err}
+use Rattle.std.specs.Prelude.{◌≡◌, ℕ, ◌+◌, ◌<◌, ◌≤◌, ◌==◌, ◌^◌, ⊤, Bool, true, false, ◌||◌, List, [], ◌++◌, length, Result, Ok, Err}
 use Rattle.std.specs.List.{slice_index_or}
 use Rattle.pc_message.specs.declared.descriptor.Descriptor.{Descriptor}
 use Rattle.pc_reply.specs.Items.{IsShort}

@@ -1,6 +1,5 @@
 -- Lists and the lines that they are sent as.
-use Rattle.std.specs.Prelude.{◌≡◌, ℕ, suc, zero, ◌+◌, ◌^◌, ◌/◌, ◌%◌, ◌<◌, ◌≤◌, ◌==◌, ⊤, Bool, true, not, ◌&&◌, IsTrue, All, List, [], ◌∷◌, ◌++◌, length, map, codes, decimal}
-use Rattle.std.specs.List.{flat_map, list_any}
+use Rattle.std.specs.Prelude.{◌≡◌, ℕ, suc, zero, ◌+◌, ◌^◌, ◌/◌, ◌%◌, ◌<◌, ◌≤◌, ◌==◌, IsTrue, List, [], ◌∷◌, ◌++◌, length, map, codes, decimal}
 use Rattle.std.specs.Str.{bytes_eq}
 use Rattle.pc_base.specs.Name.{is_name}
 use Rattle.pc_message.specs.declared.descriptor.Descriptor.{Descriptor}

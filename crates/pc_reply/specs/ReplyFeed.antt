@@ -7,7 +7,6 @@ use Rattle.pc_wire.specs.BodyFeed.{is_dot, content_of}
 use Rattle.pc_reply.specs.Head.{IsHead, has_list}
 use Rattle.pc_reply.specs.Reply.{list_fits}
 use Rattle.pc_reply.specs.declared.head.Head.{Head}
-use Rattle.pc_reply.specs.declared.reply.Reply.{Reply}
 use Rattle.pc_reply.specs.declared.reply_feed.ReplyNext.{ReplyNext}
 use Rattle.pc_reply.specs.declared.reply_feed.ReplyNext.TheVariants.{Whole, More, Bad}
 

@@ -87,7 +87,10 @@ impl Head {
             Head::WantOfMemory => ShortText::copy_of(b"500 Want of memory"),
             Head::DeviceFailed => ShortText::copy_of(b"501 Device failed"),
             Head::ChangeMissing { number } => {
-                Text::of(b"502 Change ").with_number(*number).with(b" is missing").finished()
+                Text::of(b"502 Change ")
+                    .with_number(*number)
+                    .with(b" is missing")
+                    .finished()
             }
         }
     }
@@ -262,5 +265,8 @@ fn all_limits() -> &'static [LimitWord]
 fn limit_named(word: &[u8]) -> Option<LimitWord>
     ensures { result ≡ named_limit word.now }
 {
-    all_limits().iter().copied().find(|limit| limit.word() == word)
+    all_limits()
+        .iter()
+        .copied()
+        .find(|limit| limit.word() == word)
 }

@@ -82,7 +82,8 @@ pub fn push_descriptor(
 pub fn client_line(alloc: Global, name: &Name, birth: u64, mode: Mode) -> Result<Line, Memory>
     ensures { IfOk result (λ line. line ≡ client_text name.now birth mode) }
 {
-    Text::of(b"").with_name(name)
+    Text::of(b"")
+        .with_name(name)
         .with(b" ")
         .with_number(birth)
         .with(b" ")
@@ -109,7 +110,8 @@ pub fn name_line(alloc: Global, name: &Name) -> Result<Line, Memory>
 pub(crate) fn counted(name: &Name, first: u32, second: u32) -> Text
     ensures { result ≡ counted_text name.now first second }
 {
-    Text::of(b"").with_name(name)
+    Text::of(b"")
+        .with_name(name)
         .with(b" ")
         .with_number(u64::from(first))
         .with(b" ")

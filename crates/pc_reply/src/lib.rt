@@ -13,7 +13,9 @@ mod reply_feed;
 mod text;
 
 pub use head::Head;
-pub use items::{ItemFault, Mode, client_line, counted_line, name_line, push_change, push_descriptor};
+pub use items::{
+    ItemFault, Mode, client_line, counted_line, name_line, push_change, push_descriptor,
+};
 pub use reading::{read_changes, read_mailboxes};
 pub use reply::Reply;
 pub use reply_feed::{ReplyFeed, ReplyNext};

@@ -11,9 +11,9 @@ ghost use Rattle.pc_reply.specs.Changes.{ReadsItem, ReadsFirst, Learns, HasShort
 ghost use Rattle.pc_reply.specs.declared.items.ItemFault.TheVariants as fault;
 
 use crate::first_line::FirstLine;
-use crate::items::{ItemFault, counted, copy};
-use crate::text::is_same;
+use crate::items::{ItemFault, copy, counted};
 use crate::parts::first_number;
+use crate::text::is_same;
 use pc_base::{Line, Lines, Memory, Name, Names};
 use pc_message::{Change, Changes, Descriptor};
 use pc_wire::next_word;

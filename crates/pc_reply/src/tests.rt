@@ -22,7 +22,11 @@ fn lines_of(alloc: Global, texts: &[&[u8]]) -> Result<Lines, Fail> {
 /// Whether the lines are these texts.
 fn are_lines(lines: &Lines, texts: &[&[u8]]) -> bool {
     let lines = lines.as_slice();
-    lines.len() == texts.len() && lines.iter().zip(texts.iter()).all(|(line, text)| line.bytes() == *text)
+    lines.len() == texts.len()
+        && lines
+            .iter()
+            .zip(texts.iter())
+            .all(|(line, text)| line.bytes() == *text)
 }
 
 /// What a feed tells after the bytes: the first answer other than `More`, or `More` at their end.
@@ -61,7 +65,9 @@ fn bad_place(alloc: Global, bytes: &[u8]) -> Result<Option<u64>, Fail> {
     let (next, _) = told(&mut feed, bytes)?;
     let again = feed.next()?;
     match (next, again) {
-        (ReplyNext::Bad { place }, ReplyNext::Bad { place: other }) if place == other => Ok(Some(place)),
+        (ReplyNext::Bad { place }, ReplyNext::Bad { place: other }) if place == other => Ok(Some(
+            place,
+        )),
         _ => Ok(None),
     }
 }
@@ -88,14 +94,23 @@ fn heads_without_more(rt: HostRuntime) -> Result<(), Fail> {
         (Head::Ok, b"200 Ok"),
         (Head::ListFollows, b"201 List follows"),
         (Head::MessageFollows, b"202 Message follows"),
-        (Head::Birth { birth: u64::MAX }, b"205 Birth 18446744073709551615"),
+        (
+            Head::Birth { birth: u64::MAX },
+            b"205 Birth 18446744073709551615",
+        ),
         (Head::Ready, b"220 pcmail DMSP ready"),
         (Head::Closing, b"221 Closing"),
         (Head::SendMessage, b"300 Send message"),
         (Head::WantOfMemory, b"500 Want of memory"),
         (Head::DeviceFailed, b"501 Device failed"),
-        (Head::ChangeMissing { number: 0 }, b"502 Change 0 is missing"),
-        (Head::ChangeMissing { number: 17 }, b"502 Change 17 is missing"),
+        (
+            Head::ChangeMissing { number: 0 },
+            b"502 Change 0 is missing",
+        ),
+        (
+            Head::ChangeMissing { number: 17 },
+            b"502 Change 17 is missing",
+        ),
     ];
     for (head, text) in heads {
         check_head(&rt, rt.alloc(), head, text)?;
@@ -113,7 +128,10 @@ fn heads_of_refusals(rt: HostRuntime) -> Result<(), Fail> {
         (Refusal::AlreadyLoggedIn, b"404 Already logged in"),
         (Refusal::BadUserOrPassword, b"405 Bad user or password"),
         (Refusal::NoSuchClient, b"406 No such client"),
-        (Refusal::Superseded { number: 5 }, b"407 Superseded by session 5"),
+        (
+            Refusal::Superseded { number: 5 },
+            b"407 Superseded by session 5",
+        ),
         (Refusal::NoMailboxSelected, b"408 No mailbox selected"),
         (Refusal::NoSuchMailbox, b"409 No such mailbox"),
         (Refusal::MailboxExists, b"410 Mailbox exists"),
@@ -122,10 +140,25 @@ fn heads_of_refusals(rt: HostRuntime) -> Result<(), Fail> {
         (Refusal::NoSuchFlag, b"413 No such flag"),
         (Refusal::NoSuchAddress, b"414 No such address"),
         (Refusal::AddressTaken, b"415 Address taken"),
-        (Refusal::UnknownRecipient { shown: Recipient::shown(b"a b") }, b"416 Unknown recipient a?b"),
-        (Refusal::UnknownRecipient { shown: Recipient::shown(b"") }, b"416 Unknown recipient -"),
+        (
+            Refusal::UnknownRecipient {
+                shown: Recipient::shown(b"a b"),
+            },
+            b"416 Unknown recipient a?b",
+        ),
+        (
+            Refusal::UnknownRecipient {
+                shown: Recipient::shown(b""),
+            },
+            b"416 Unknown recipient -",
+        ),
         (Refusal::MessageTooLarge, b"417 Message too large"),
-        (Refusal::LimitReached { limit: LimitWord::Uids }, b"418 Limit reached uids"),
+        (
+            Refusal::LimitReached {
+                limit: LimitWord::Uids,
+            },
+            b"418 Limit reached uids",
+        ),
         (Refusal::NoSuchBoard, b"419 No such board"),
         (Refusal::NotSubscribed, b"420 Not subscribed"),
         (Refusal::AlreadySubscribed, b"421 Already subscribed"),
@@ -185,7 +218,10 @@ fn lists_are_read_in_every_cutting(rt: HostRuntime) -> Result<(), Fail> {
     for cut in 0..written.len() {
         let (again, taken) = read_cut(alloc, &followed, cut)?;
         assert_eq!(rt; taken, written.len());
-        assert_eq!(rt; again.head.text().bytes(), b"202 Message follows".as_slice());
+        assert_eq!(rt;
+            again.head.text().bytes(),
+            b"202 Message follows".as_slice()
+        );
         assert!(rt; are_lines(&again.lines, &texts));
     }
     Ok(())
@@ -256,7 +292,14 @@ fn changes_are_written_and_read(rt: HostRuntime) -> Result<(), Fail> {
     let mut lines = Lines::new(alloc);
     push_change(alloc, &mut lines, &Change::Expunged(4_294_967_295))?;
     push_change(alloc, &mut lines, &Change::Present(descriptor))?;
-    let texts: [&[u8]; 6] = [b"4294967295 EXPUNGED", b"1 1000000000000001 24 6", b"", b"ann", b"bob", b"one"];
+    let texts: [&[u8]; 6] = [
+        b"4294967295 EXPUNGED",
+        b"1 1000000000000001 24 6",
+        b"",
+        b"ann",
+        b"bob",
+        b"one",
+    ];
     assert!(rt; are_lines(&lines, &texts));
     let changes = read_changes(alloc, &lines)?;
     let mut again = Lines::new(alloc);
@@ -328,9 +371,18 @@ fn mailboxes_are_read(rt: HostRuntime) -> Result<(), Fail> {
 fn other_lines(rt: HostRuntime) -> Result<(), Fail> {
     let alloc = rt.alloc();
     let name = Name::read(b"ws1").ok_or("a name")?;
-    assert_eq!(rt; client_line(alloc, &name, 3, Mode::Away)?.bytes(), b"ws1 3 away".as_slice());
-    assert_eq!(rt; client_line(alloc, &name, u64::MAX, Mode::Interactive)?.bytes(), b"ws1 18446744073709551615 interactive".as_slice());
-    assert_eq!(rt; client_line(alloc, &name, 3, Mode::Batch)?.bytes(), b"ws1 3 batch".as_slice());
+    assert_eq!(rt;
+        client_line(alloc, &name, 3, Mode::Away)?.bytes(),
+        b"ws1 3 away".as_slice()
+    );
+    assert_eq!(rt;
+        client_line(alloc, &name, u64::MAX, Mode::Interactive)?.bytes(),
+        b"ws1 18446744073709551615 interactive".as_slice()
+    );
+    assert_eq!(rt;
+        client_line(alloc, &name, 3, Mode::Batch)?.bytes(),
+        b"ws1 3 batch".as_slice()
+    );
     assert_eq!(rt; name_line(alloc, &name)?.bytes(), b"ws1".as_slice());
     Ok(())
 }

@@ -187,13 +187,13 @@ fed-shows_last limit since shown e some shows =
     ShowsLine-cut_whole limit since shown (subst P is line)
 
 -- a longer line with one CR taken off is no shorter
-pub without_return-append : (bytes more : List ℕ) → length (without_return bytes) ≤ length (without_return (bytes ++ more))
+without_return-append : (bytes more : List ℕ) → length (without_return bytes) ≤ length (without_return (bytes ++ more))
 without_return-append bytes [] = omega (arith, ap (λ all. length (without_return all)) (append-nil bytes))
 without_return-append bytes (b ∷ bs) =
     omega (arith, length-without_return bytes, length-without_return (bytes ++ b ∷ bs), length-append bytes (b ∷ bs))
 
 -- the cut leaves what tells whether the line passes the limit
-pub past_cut : (limit : ℕ) (line : List ℕ) → limit < length (without_return (take (limit + 2) line)) ↔ limit < length (without_return line)
+past_cut : (limit : ℕ) (line : List ℕ) → limit < length (without_return (take (limit + 2) line)) ↔ limit < length (without_return line)
 past_cut limit line = elim (cases_lt (limit + 2) (length line)) [
   | inl h ↦ (λ _. omega (arith, length-without_return line), λ _. omega (arith, length-take-le (limit + 2) line (omega arith), length-without_return (take (limit + 2) line)))
   | inr h ↦ rw (take_all (limit + 2) line h) (λ p. p, λ p. p)

@@ -1,6 +1,6 @@
-use Rattle.std.proofs.Common.{[], ◌∷◌, decimal, Some, sym, ap, ◌∙◌}
+use Rattle.std.proofs.Common.{[], ◌∷◌, decimal, sym, ◌∙◌}
 use Rattle.std.proofs.lemmas.Bool.{false≢true}
-use Rattle.pc_reply.specs.Items.{flag_digits, counts_text}
+use Rattle.pc_reply.specs.Items.{flag_digits}
 use Rattle.pc_reply.proofs.WordTexts.{counts_words}
 use Rattle.pc_reply.proofs.first_line.read_counts.Goals as goal
 

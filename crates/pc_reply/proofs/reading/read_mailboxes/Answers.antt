@@ -24,9 +24,9 @@ returns-in-Ok-false-clause-items c =
     let found : contains (slice_cmp nat_cmp) c.loop-line.known c.in-Some.name ≡ true = was_known c.in-Ok-false.field-0 (contains (slice_cmp nat_cmp) c.loop-line.known c.in-Some.name) c.in-Ok-false.ensures.added c.in-Ok-false.field-0-test in
     let listed = sym (c.loop-line.invariant.known c.in-Some.name) ∙ found in
     row_fault c.loop-line.names c.as_slice-row-items.result.now c.args.lines.now c.loop-line.line c.row-item.result c.bytes.result.now c.as_slice-row-items.ensures c.loop-line-test.true c.row-item.is c.bytes.ensures.value c.loop-line.invariant.items (λ row told.
-      let same = c.in-Some.ensures.every row told in
-      let name : c.in-Some.name ≡ row.name = cc in
-      ap (λ (key : List ℕ). list_any (λ other. bytes_eq other key) c.loop-line.names) (sym name) ∙ listed)
+    let same = c.in-Some.ensures.every row told in
+    let name : c.in-Some.name ≡ row.name = cc in
+    ap (λ (key : List ℕ). list_any (λ other. bytes_eq other key) c.loop-line.names) (sym name) ∙ listed)
 
 pub returns-in-Ok-false-clause-every : goal.returns-in-Ok-false-clause-every
 returns-in-Ok-false-clause-every c = λ names are.
