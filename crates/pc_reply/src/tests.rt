@@ -272,8 +272,10 @@ fn lists_have_at_most_4194304_bytes(rt: HostRuntime) -> Result<(), Fail> {
     Ok(())
 }
 
-fn fault_of_changes(alloc: Global, texts: &[&[u8]]) -> Result<Option<ItemFault>, Fail> {
-    Ok(read_changes(alloc, &lines_of(alloc, texts)?).err())
+/// Whether the lines are refused at this line, or read where it's `None`.
+fn is_fault_of_changes(alloc: Global, texts: &[&[u8]], fault: Option<usize>) -> Result<bool, Fail> {
+    let wanted = fault.map(|line| ItemFault::Bad { line });
+    Ok(read_changes(alloc, &lines_of(alloc, texts)?).err() == wanted)
 }
 
 #[test]
@@ -311,30 +313,41 @@ fn changes_are_written_and_read(rt: HostRuntime) -> Result<(), Fail> {
 }
 
 #[test]
-fn faults_of_changes(rt: HostRuntime) -> Result<(), Fail> {
+fn faults_of_texts(rt: HostRuntime) -> Result<(), Fail> {
     let alloc = rt.alloc();
+    let first: &[u8] = b"1 0000000000000000 24 6";
     let short = vec![in alloc; b'x'; 128]?;
     let long = vec![in alloc; b'x'; 129]?;
-    let rows: [(&[&[u8]], Option<usize>); 15] = [
-        (&[], None),
-        (&[b"1 EXPUNGED", b"2 EXPUNGED"], None),
-        (&[b"1 0000000000000000 24 6", b"", b"", &short, b""], None),
-        (&[b"1 0000000000000000 24 6", b"", b"", &long, b""], Some(3)),
-        (&[b"1 0000000000000000 24 6", b"", b"", b""], Some(4)),
-        (&[b"1 0000000000000000 24 6"], Some(1)),
-        (&[b"1 EXPUNGED", b"1 EXPUNGED"], Some(1)),
-        (&[b"1 EXPUNGED", b"1 0000000000000000 24 6"], Some(1)),
-        (&[b"01 EXPUNGED"], Some(0)),
-        (&[b"1 expunged"], Some(0)),
-        (&[b"1  EXPUNGED"], Some(0)),
-        (&[b"4294967296 EXPUNGED"], Some(0)),
-        (&[b"1 000000000000000 24 6", b"", b"", b"", b""], Some(0)),
-        (&[b"1 000000000000000x 24 6", b"", b"", b"", b""], Some(0)),
-        (&[b"1 0000000000000000 024 6", b"", b"", b"", b""], Some(0)),
-    ];
-    for (texts, fault) in rows {
-        let wanted = fault.map(|line| ItemFault::Bad { line });
-        assert_eq!(rt; fault_of_changes(alloc, texts)?, wanted);
+    assert!(rt; is_fault_of_changes(alloc, &[], None)?);
+    assert!(rt; is_fault_of_changes(alloc, &[first, b"", b"", &short, b""], None)?);
+    assert!(rt; is_fault_of_changes(alloc, &[first, b"", b"", &long, b""], Some(3))?);
+    assert!(rt; is_fault_of_changes(alloc, &[first, b"", b"", b""], Some(4))?);
+    assert!(rt; is_fault_of_changes(alloc, &[first], Some(1))?);
+    assert!(rt; is_fault_of_changes(alloc, &[b"1 EXPUNGED", first], Some(1))?);
+    assert!(rt;
+        is_fault_of_changes(
+            alloc,
+            &[b"1 EXPUNGED", b"2 EXPUNGED", b"1 EXPUNGED"],
+            Some(2)
+        )?
+    );
+    Ok(())
+}
+
+#[test]
+fn faults_of_first_lines(rt: HostRuntime) -> Result<(), Fail> {
+    for line in [
+        b"01 EXPUNGED".as_slice(),
+        b"1 expunged",
+        b"1  EXPUNGED",
+        b"4294967296 EXPUNGED",
+        b"1 000000000000000 24 6",
+        b"1 000000000000000x 24 6",
+        b"1 0000000000000000 024 6",
+        b"1 0000000000000000 24",
+        b"",
+    ] {
+        assert!(rt; is_fault_of_changes(rt.alloc(), &[line], Some(0))?);
     }
     Ok(())
 }
