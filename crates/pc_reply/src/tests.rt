@@ -312,18 +312,22 @@ fn changes_are_written_and_read(rt: HostRuntime) -> Result<(), Fail> {
     Ok(())
 }
 
+/// The first line of a message that is there.
+const FIRST: &[u8] = b"1 0000000000000000 24 6";
+
+static SHORT: [u8; 128] = [b'x'; 128];
+
+static LONG: [u8; 129] = [b'x'; 129];
+
 #[test]
 fn faults_of_texts(rt: HostRuntime) -> Result<(), Fail> {
     let alloc = rt.alloc();
-    let first: &[u8] = b"1 0000000000000000 24 6";
-    let short = vec![in alloc; b'x'; 128]?;
-    let long = vec![in alloc; b'x'; 129]?;
     assert!(rt; is_fault_of_changes(alloc, &[], None)?);
-    assert!(rt; is_fault_of_changes(alloc, &[first, b"", b"", &short, b""], None)?);
-    assert!(rt; is_fault_of_changes(alloc, &[first, b"", b"", &long, b""], Some(3))?);
-    assert!(rt; is_fault_of_changes(alloc, &[first, b"", b"", b""], Some(4))?);
-    assert!(rt; is_fault_of_changes(alloc, &[first], Some(1))?);
-    assert!(rt; is_fault_of_changes(alloc, &[b"1 EXPUNGED", first], Some(1))?);
+    assert!(rt; is_fault_of_changes(alloc, &[FIRST, b"", b"", &SHORT, b""], None)?);
+    assert!(rt; is_fault_of_changes(alloc, &[FIRST, b"", b"", &LONG, b""], Some(3))?);
+    assert!(rt; is_fault_of_changes(alloc, &[FIRST, b"", b"", b""], Some(4))?);
+    assert!(rt; is_fault_of_changes(alloc, &[FIRST], Some(1))?);
+    assert!(rt; is_fault_of_changes(alloc, &[b"1 EXPUNGED", FIRST], Some(1))?);
     assert!(rt;
         is_fault_of_changes(
             alloc,
