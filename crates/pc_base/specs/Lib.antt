@@ -6,3 +6,5 @@ pub mod Refusal
 pub mod ShortText
 pub mod Stream
 pub mod MemoryStream
+pub mod Frame
+pub mod Machine

@@ -8,6 +8,15 @@ use std::alloc::{AllocError, AllocFailed};
 #[derive(Clone, Copy, Debug, PartialEq, Eq)]
 pub struct Memory;
 
+/// Why bytes weren't read as a value.
+#[derive(Clone, Copy, Debug, PartialEq, Eq)]
+pub enum ReadFault {
+    /// They are no value: none goes on with the field at this place.
+    Malformed { place: u64 },
+    /// Want of memory.
+    Memory,
+}
+
 /// An outside call failed. Its object's count of faults rose.
 #[derive(Clone, Copy, Debug, PartialEq, Eq)]
 pub struct Failed;
@@ -25,5 +34,16 @@ impl<T: Drop> From<AllocFailed<T>> for Memory {
 
     fn from(_error: AllocFailed<T>) -> Memory {
         Memory
+    }
+}
+
+impl From<Memory> for ReadFault {
+    ghost use Rattle.std.specs.Prelude.{◌≡◌};
+    ghost use Rattle.pc_base.specs.declared.failure.ReadFault.TheVariants as fault;
+
+    ghost from_gives = { λ _ made. made ≡ fault.Memory };
+
+    fn from(_memory: Memory) -> ReadFault {
+        ReadFault::Memory
     }
 }

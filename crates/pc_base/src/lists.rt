@@ -2,70 +2,12 @@
 
 ghost use Rattle.std.specs.Prelude.{◌≡◌, [], ◌∷◌, ◌++◌, IfOk, OnOk, OnErr, length};
 
+use crate::bytes::Bytes;
 use crate::failure::Memory;
 use crate::line::Line;
 use crate::name::Name;
 use std::alloc::Global;
 use std::marker::Model;
-
-/// A list of bytes.
-#[derive(Drop)]
-pub struct Bytes {
-    bytes: Vec<u8>,
-}
-
-impl Model for Bytes {
-    ghost use Rattle.std.specs.Prelude.{ℕ, List};
-
-    ghost Value = { List ℕ };
-
-    ghost view = { λ b. b.bytes.items };
-}
-
-impl Bytes {
-    /// No bytes.
-    pub fn new(alloc: Global) -> Bytes
-        ensures { result ≡ [] }
-    {
-        Bytes {
-            bytes: Vec::new(alloc),
-        }
-    }
-
-    /// No bytes, with room for so many.
-    pub fn with_capacity(alloc: Global, capacity: usize) -> Result<Bytes, Memory>
-        ensures { IfOk result (λ bytes. bytes ≡ []) }
-    {
-        Ok(Bytes {
-            bytes: Vec::with_capacity(alloc, capacity)?,
-        })
-    }
-
-    /// A copy of these bytes.
-    pub fn copy_of(alloc: Global, bytes: &[u8]) -> Result<Bytes, Memory>
-        ensures { IfOk result (λ copy. copy ≡ bytes.now) }
-    {
-        Ok(Bytes {
-            bytes: Vec::from_slice(alloc, bytes)?,
-        })
-    }
-
-    /// Appends these bytes. After `Err` nothing has changed.
-    pub fn append(&mut self, bytes: &[u8]) -> Result<(), Memory>
-        ensures ok { OnOk result (self.new ≡ self.old ++ bytes.now) }
-        ensures err { OnErr result (self.new ≡ self.old) }
-    {
-        self.bytes.extend_from_slice(bytes)?;
-        Ok(())
-    }
-
-    /// The bytes.
-    pub fn as_slice(&self) -> &[u8]
-        ensures { result.now ≡ self.now }
-    {
-        self.bytes.as_slice()
-    }
-}
 
 /// A list of lines, as of a message or of a list in a reply.
 #[derive(Drop)]

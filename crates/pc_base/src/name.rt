@@ -7,6 +7,7 @@ ghost use Rattle.pc_base.specs.Name.{is_letter as letter, is_name as named, is_n
 
 use crate::short_text::ShortText;
 use std::cmp::Ordering;
+use std::hash::{Hash, Hasher};
 use std::marker::Model;
 
 /// 1 to 32 of `a` to `z`, `0` to `9`, `.`, `_` and `-`, the first a letter.
@@ -70,6 +71,20 @@ impl Eq for Name {
     ghost use Rattle.std.proofs.Common.{rules};
 
     ghost laws = { Prim.search (comparing, rules) };
+}
+
+impl Hash for Name {
+    ghost use Rattle.std.specs.Cmp.Rules.{hashing};
+    ghost use Rattle.std.specs.Hash as fed;
+    ghost use Rattle.std.proofs.Common.{rules};
+
+    ghost hash_input = { fed.slice fed.u8 };
+
+    ghost respects_eq = { Prim.search (hashing, rules) };
+
+    fn hash<H: Hasher>(&self, state: &mut H) {
+        self.bytes().hash(state);
+    }
 }
 
 impl PartialOrd for Name {
@@ -188,7 +203,7 @@ fn are_printed(bytes: &[u8]) -> bool
 }
 
 /// Which store a journal belongs to.
-#[derive(Clone, Copy)]
+#[derive(Clone, Copy, PartialEq, Eq)]
 pub enum StoreName {
     /// The post office.
     Office,

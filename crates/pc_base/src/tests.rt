@@ -1,11 +1,14 @@
 //! Tests on rows that were worked out by hand, and of what no clause says.
 
+mod tally;
+
 use crate::{
-    Bytes, Failed, LimitWord, Line, LineFault, Lines, MemorySink, MemorySource, Name, Names,
-    Password, Printed, Recipient, Refusal, ShortText, Sink, Source, Uids, read_u32, read_u64,
-    write_all,
+    Bytes, Failed, LimitWord, Line, LineFault, Lines, Machine, MemorySink, MemorySource, Name,
+    Names, Password, Printed, ReadFault, Recipient, Refusal, ShortText, Sink, Source, Uids,
+    read_u32, read_u64, write_all,
 };
 use std::test::Fail;
+use tally::{Tally, Tick};
 
 #[test]
 fn names_at_the_edge(rt: HostRuntime) {
@@ -398,5 +401,62 @@ fn bytes_are_kept(rt: HostRuntime) -> Result<(), Fail> {
     let part: ShortText<3> = ShortText::copy_of(b"a");
     assert_eq!(rt; full.bytes(), b"abc".as_slice());
     assert_eq!(rt; part.bytes(), b"a".as_slice());
+    Ok(())
+}
+
+#[test]
+fn bytes_are_framed(rt: HostRuntime) -> Result<(), Fail> {
+    let mut bytes = Bytes::new(rt.alloc());
+    assert_eq!(rt; bytes.framed(), b"\x00\x00\x00\x00\x00".as_slice());
+    bytes.append(b"")?;
+    assert_eq!(rt; bytes.framed(), b"\x00\x00\x00\x00\x00".as_slice());
+    bytes.append(b"in")?;
+    bytes.append(b"box")?;
+    assert_eq!(rt; bytes.framed(), b"\x00\x00\x00\x05inbox\x00".as_slice());
+    assert_eq!(rt; bytes.as_slice(), b"inbox".as_slice());
+
+    let mut long = Bytes::with_capacity(rt.alloc(), 300)?;
+    for _ in 0..300 {
+        long.append(b"x")?;
+    }
+    assert_eq!(rt; long.framed().len(), 305);
+    assert_eq!(rt; &long.framed()[..5], b"\x00\x00\x01\x2cx".as_slice());
+    assert_eq!(rt; &long.framed()[303..], b"x\x00".as_slice());
+    Ok(())
+}
+
+// An entry, and the state after it, written and read again.
+fn twice<M: Machine>(rt: &HostRuntime, entry: &M::Entry) -> Result<(Bytes, Bytes), Fail>
+    requires { M.fits entry.now }
+{
+    let mut written = Bytes::new(rt.alloc());
+    M::write_entry(entry, &mut written)?;
+    let read = M::read_entry(rt.alloc(), written.as_slice())?;
+    let mut again = Bytes::new(rt.alloc());
+    M::write_entry(&read, &mut again)?;
+    Ok((written, again))
+}
+
+#[test]
+fn a_machine_of_its_own(rt: HostRuntime) -> Result<(), Fail> {
+    let (written, again) = twice::<Tally>(&rt, &Tick { mark: 7 })?;
+    assert_eq!(rt; written.as_slice(), b"\x07".as_slice());
+    assert_eq!(rt; again.as_slice(), b"\x07".as_slice());
+
+    let mut tally = Tally::empty(rt.alloc())?;
+    assert!(rt; tally.number_from(5));
+    assert!(rt; tally.allows(&Tick { mark: 7 }));
+    tally.apply(rt.alloc(), &Tick { mark: 7 })?;
+    assert_eq!(rt; tally, Tally { count: 1, next: 6 });
+    let mut record = Bytes::new(rt.alloc());
+    tally.save(&mut record)?;
+    let mut loaded = Tally::load(rt.alloc(), record.as_slice())?;
+    assert!(rt; !loaded.number_from(1));
+    assert!(rt; loaded.number_from(6));
+    assert_eq!(rt; loaded, tally);
+    assert_eq!(rt;
+        Tally::load(rt.alloc(), b"\xc9"),
+        Err(ReadFault::Malformed { place: 0 })
+    );
     Ok(())
 }
