@@ -23,7 +23,8 @@ total-keys : {X : Type 0} (f : List ℕ → ℕ) (g : X → ℕ) (table : List (
 total-keys f g [] h = refl
 total-keys f g (entry ∷ table) h = λ i. h.0 i + total-keys f g table h.1 i
 
-keys-lists : (number highest : ℕ) (clients : List (List ℕ × ℕ)) (lists : List (List ℕ × List Listed)) → AreListsOf number highest clients lists → keys_of lists ≡ keys_of clients
+-- the lists stand under the clients' names
+pub keys-lists : (number highest : ℕ) (clients : List (List ℕ × ℕ)) (lists : List (List ℕ × List Listed)) → AreListsOf number highest clients lists → keys_of lists ≡ keys_of clients
 keys-lists number highest [] [] h = refl
 keys-lists number highest [] (list ∷ lists) h = absurd h
 keys-lists number highest (client ∷ clients) [] h = absurd h
@@ -37,14 +38,16 @@ found-self : {X : Type 0} (found : Option X) (d : X) → MatchOption found ⊤ (
 found-self None d = tt
 found-self (Some x) d = refl
 
+-- under each client's name stands the list that is found there
+pub lists-found : (number : ℕ) (clients : List (List ℕ × ℕ)) (box : MailboxRecord) → AreDistinct (keys_of clients) → IsMailbox number clients box → Every (λ (list : List ℕ × List Listed). list_of box list.0 ≡ list.1) box.lists
+lists-found number clients box distinct good = Every-from_lookups (λ name list. list_of box name ≡ list) box.lists (subst AreDistinct (sym (keys-lists number box.highest clients box.lists good.lists)) distinct) (λ name. found-self (lookup (same name) box.lists) [])
+
 -- the changes of one mailbox, by client or list by list
 lists-counted : (number : ℕ) (clients : List (List ℕ × ℕ)) (box : MailboxRecord) → AreDistinct (keys_of clients) → IsMailbox number clients box → total (λ client. length (list_of box client.0)) clients ≡ total (λ list. length list.1) box.lists
 lists-counted number clients box distinct good =
-    let keys = keys-lists number box.highest clients box.lists good.lists in
-    let each = Every-from_lookups (λ name list. list_of box name ≡ list) box.lists (subst AreDistinct (sym keys) distinct) (λ name. found-self (lookup (same name) box.lists) []) in
     total-map (λ name. length (list_of box name)) clients
-    ∙ ap (total (λ name. length (list_of box name))) (sym keys)
-    ∙ total-keys (λ name. length (list_of box name)) length box.lists (Every-weaker (λ (list : List ℕ × List Listed). list_of box list.0 ≡ list.1) (λ (list : List ℕ × List Listed). length (list_of box list.0) ≡ length list.1) (λ list e. ap length e) box.lists each)
+    ∙ ap (total (λ name. length (list_of box name))) (sym (keys-lists number box.highest clients box.lists good.lists))
+    ∙ total-keys (λ name. length (list_of box name)) length box.lists (Every-weaker (λ (list : List ℕ × List Listed). list_of box list.0 ≡ list.1) (λ (list : List ℕ × List Listed). length (list_of box list.0) ≡ length list.1) (λ list e. ap length e) box.lists (lists-found number clients box distinct good))
 
 -- under each name of the tables stands what is found there
 Every-found_there : (r : AccountRecord) → AreDistinct (keys_of r.live ++ keys_of r.dropped) → Every (λ (entry : List ℕ × MailboxRecord). mailbox_of r entry.0 ≡ entry.1) r.live × Every (λ (entry : List ℕ × MailboxRecord). mailbox_of r entry.0 ≡ entry.1) r.dropped

@@ -80,6 +80,10 @@ RecordIsCounted = (r : AccountRecord) (number : ℕ) → IsWellFormed r number �
 abbrev pub StepIsOneEntryMore : Type 0
 StepIsOneEntryMore = (r : AccountRecord) (number : ℕ) (e : Entry) → IsCanonical r number → is_allowed (said_by r number) e ≡ true → limit_passed (said_by r number) e ≡ None → IsCanonical (after r number e) (suc number) × (said_by (after r number e) (suc number) ≡ after_entry (said_by r number) e)
 
+-- an allowed entry, also one that passes a limit, makes of a well-formed record one that says what is known after the entry
+abbrev pub StepIsFormedAgain : Type 0
+StepIsFormedAgain = (r : AccountRecord) (number : ℕ) (e : Entry) → IsWellFormed r number → is_allowed (said_by r number) e ≡ true → IsWellFormed (after r number e) (suc number) × (said_by (after r number e) (suc number) ≡ after_entry (said_by r number) e)
+
 -- ---- one entry more
 
 abbrev pub UntouchedStays : Type 0

@@ -1,6 +1,6 @@
 //! What holds of every legal history. Each law is the contract of a function that does nothing.
 
-ghost use Rattle.pc_history.specs.Laws.{RecordAnswersAsHistory, RecordInPlaceOfHistory, RecordIsCanonical, ChangesAreTheUpdateList, StampsAreNumbersOfEntries, LimitsHold, LimitIsPassed, RecordIsCounted, StepIsOneEntryMore, UntouchedStays, UnlistedWasTaken, ClientStays, SameStampSameMessage, ListedIsTouchedSince, KeptUnderItsUid, OneFlagIsSet};
+ghost use Rattle.pc_history.specs.Laws.{RecordAnswersAsHistory, RecordInPlaceOfHistory, RecordIsCanonical, ChangesAreTheUpdateList, StampsAreNumbersOfEntries, LimitsHold, LimitIsPassed, RecordIsCounted, StepIsOneEntryMore, StepIsFormedAgain, UntouchedStays, UnlistedWasTaken, ClientStays, SameStampSameMessage, ListedIsTouchedSince, KeptUnderItsUid, OneFlagIsSet};
 
 /// The record of a history answers every question as the history does.
 pub fn record_answers_as_history()
@@ -45,6 +45,11 @@ pub fn record_is_counted()
 /// The step of a record is one entry more.
 pub fn step_is_one_entry_more()
     ensures { StepIsOneEntryMore }
+{}
+
+/// The step of a record is one entry more, whether or not it passes a limit.
+pub fn step_is_formed_again()
+    ensures { StepIsFormedAgain }
 {}
 
 /// An entry that doesn't touch a message for a client leaves it as it was.
