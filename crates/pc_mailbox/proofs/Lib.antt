@@ -1,6 +1,9 @@
+pub mod Search
 pub mod Stamps
 pub mod Touches
 pub mod Places
 pub mod Fronts
+pub mod Totals
 pub mod Holds
 pub mod Admitted
+pub mod Histories

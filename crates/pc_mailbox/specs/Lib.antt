@@ -1,2 +1,4 @@
+pub mod Growth
 pub mod Mailbox
 pub mod UpdateList
+pub mod Histories

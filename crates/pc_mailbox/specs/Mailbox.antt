@@ -1,5 +1,5 @@
 -- What is asked of a mailbox, and what holds of each.
-use Rattle.std.specs.Prelude.{◌≡◌, ℕ, ◌*◌, ◌≤◌, ◌&&◌, nat_le, ◌==◌, not, Bool, List, [], map, length, Option, if◌then◌else◌}
+use Rattle.std.specs.Prelude.{◌≡◌, ℕ, ◌*◌, ◌<◌, ◌≤◌, ◌&&◌, nat_lt, nat_le, ◌==◌, not, Bool, List, [], map, length, Option, if◌then◌else◌}
 use Rattle.std.specs.Option.{option_map}
 use Rattle.std.specs.List.{filter}
 use Rattle.pc_message.specs.declared.descriptor.Change.{Change}
@@ -11,7 +11,7 @@ use Rattle.pc_history.specs.Flags.{flag_of}
 use Rattle.pc_history.specs.Table.{total}
 use Rattle.pc_history.specs.Record.{MailboxRecord, kept_at}
 use Rattle.pc_history.specs.Effect.{flagged}
-use Rattle.pc_history.specs.Legal.{AreMessages}
+use Rattle.pc_history.specs.Legal.{AreMessages, Ordered}
 use Rattle.pc_history.specs.Answers.{descriptor_at}
 
 -- a mailbox that was never made, without clients
@@ -49,6 +49,14 @@ remaining messages = filter (λ (kept : Kept). not (is_deleted kept)) messages
 -- the message with one flag set, if it has this uid
 abbrev pub with_flag_at : ℕ → ℕ → Bool → Kept → Kept
 with_flag_at uid flag on kept = if kept.uid == uid then flagged flag on kept else kept
+
+-- uids that rise from one message to the next
+abbrev pub UidsRise : List Kept → Type 0
+UidsRise messages = Ordered (λ (kept later : Kept). kept.uid < later.uid) messages
+
+-- the uid is below a bound
+abbrev pub is_below : ℕ → Kept → Bool
+is_below bound kept = nat_lt kept.uid bound
 
 -- the uid is one from low to high
 abbrev pub is_between : ℕ → ℕ → Kept → Bool

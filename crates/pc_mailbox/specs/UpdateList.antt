@@ -3,6 +3,7 @@ use Rattle.std.specs.Prelude.{◌≡◌, ℕ, ◌^◌, ◌-◌, ◌<◌, Bool, L
 use Rattle.std.specs.List.{filter, list_all}
 use Rattle.lru.specs.LruCache.{LruCache}
 use Rattle.pc_history.specs.declared.kept.Listed.{Listed}
+use Rattle.pc_history.specs.Table.{total}
 use Rattle.pc_history.specs.Record.{stamp_at}
 use Rattle.pc_history.specs.Legal.{Ordered}
 use Rattle.pc_history.specs.Step.{without, touched}
@@ -31,6 +32,10 @@ Rise uids = Ordered (λ (uid later : ℕ). uid < later) uids
 -- how many clients have the uid on their lists
 abbrev pub takers_of : ℕ → List (List ℕ × List Listed) → ℕ
 takers_of uid lists = length (filter (λ (entry : List ℕ × List Listed). is_on entry.1 uid) lists)
+
+-- how many changes are on all lists
+abbrev pub listed_in : List (List ℕ × List Listed) → ℕ
+listed_in lists = total (λ (entry : List ℕ × List Listed). length entry.1) lists
 
 -- every client has all these uids on its list
 abbrev pub all_list : List ℕ → List (List ℕ × List Listed) → Bool

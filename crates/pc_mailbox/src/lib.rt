@@ -1,6 +1,7 @@
 //! A mailbox: its messages, and for each client the changes that it hasn't taken yet.
 #![tactic(auto)]
 
+mod growth;
 mod mailbox;
 mod messages;
 mod shown;

@@ -1,15 +1,19 @@
 //! A mailbox. What stands under its name in the record of an account is its value.
 
-ghost use Rattle.std.specs.Prelude.{◌≡◌, ◌<◌, ◌≤◌, suc, true, [], ◌∷◌, map, length, take, unwrap_or, is_some, option_map, option_copied, OnOk, OnErr, IfOk, IsOk};
+ghost use Rattle.std.specs.Prelude.{◌≡◌, ◌<◌, ◌≤◌, suc, true, false, [], ◌∷◌, map, length, take, unwrap_or, is_some, option_map, option_copied, OnOk, OnErr, IfOk, IsOk};
 ghost use Rattle.std.specs.List.{list_any};
 ghost use Rattle.pc_history.specs.Record.{kept_at, list_of, stamp_at};
 ghost use Rattle.pc_history.specs.Step.{with_message, with_flag_set, expunged, emptied, with_client, without_client, reset_for, taken_by};
-ghost use Rattle.pc_mailbox.specs.UpdateList.{takers_of, all_list};
+ghost use Rattle.pc_mailbox.specs.UpdateList.{takers_of, listed_in, all_list};
+ghost use Rattle.pc_mailbox.specs.Growth.{unlisted_by_all, unlisted_for};
+ghost use Rattle.pc_history.specs.Allowed.{messages};
+ghost use Rattle.pc_history.specs.Answers.{first_changes};
 ghost use Rattle.pc_mailbox.specs.Mailbox.{empty_mailbox, kept_as, weight_of_all, is_deleted, deleted, described, flags_at, message_at};
+ghost use Rattle.pc_mailbox.specs.Histories.{InEachHistory, descriptors_between, message_in, flags_in, takers_in};
 
 use crate::shown::Shown;
 use crate::update_list::UpdateList;
-use crate::{messages, update_lists};
+use crate::{growth, messages, update_lists};
 use pc_base::{Memory, Name, Uids};
 use pc_history::{Kept, MOST_MESSAGES, MOST_UIDS, is_on, with_flag};
 use pc_message::{Changes, Message};
@@ -166,14 +170,16 @@ impl Mailbox {
 
     /// The descriptors of the messages from one uid to another, both among them.
     pub fn descriptors(&self, alloc: Global, low: u32, high: u32) -> Result<Changes, Memory>
-        ensures { IfOk result (λ changes. changes ≡ described low high self.now.messages) }
+        ensures value { IfOk result (λ changes. changes ≡ described low high self.now.messages) }
+        ensures history { InEachHistory self.now (λ k mailbox. IfOk result (λ changes. changes ≡ descriptors_between low high k mailbox)) }
     {
         messages::describe_all(alloc, &self.messages, low, high)
     }
 
     /// The message with this uid, if it lives.
     pub fn body(&self, uid: u32) -> Option<&Message>
-        ensures { option_copied result ≡ message_at uid self.now }
+        ensures value { option_copied result ≡ message_at uid self.now }
+        ensures history { InEachHistory self.now (λ k mailbox. option_copied result ≡ message_in uid k mailbox) }
     {
         let kept = messages::find(&self.messages, uid)?;
         Some(&kept.message)
@@ -181,7 +187,8 @@ impl Mailbox {
 
     /// The first so many changes on the list of a client.
     pub fn changed(&self, alloc: Global, client: Name, count: u32) -> Result<Shown, Memory>
-        ensures { IfOk result (λ shown. shown ≡ take count (list_of self.now client)) }
+        ensures value { IfOk result (λ shown. shown ≡ take count (list_of self.now client)) }
+        ensures history { InEachHistory self.now (λ k mailbox. IfOk result (λ shown. shown ≡ first_changes k client mailbox count)) }
     {
         match update_lists::list_of(&self.lists, &client) {
             Some(list) => list.first(alloc, count),
@@ -191,7 +198,8 @@ impl Mailbox {
 
     /// The flags of the message with this uid, if it lives. Flag 0 is the lowest bit.
     pub fn live(&self, uid: u32) -> Option<u16>
-        ensures { result ≡ flags_at uid self.now }
+        ensures value { result ≡ flags_at uid self.now }
+        ensures history { InEachHistory self.now (λ k mailbox. result ≡ flags_in uid k mailbox) }
     {
         let kept = messages::find(&self.messages, uid)?;
         Some(kept.flags)
@@ -201,6 +209,7 @@ impl Mailbox {
     pub fn highest(&self) -> u32
         ensures highest { result ≡ self.now.highest }
         ensures bound { result ≤ MOST_UIDS }
+        ensures history { InEachHistory self.now (λ k mailbox. result ≡ k.highest mailbox) }
     {
         self.highest
     }
@@ -209,27 +218,31 @@ impl Mailbox {
     pub fn count(&self) -> u32
         ensures count { result ≡ length self.now.messages }
         ensures bound { result ≤ MOST_MESSAGES }
+        ensures history { InEachHistory self.now (λ k mailbox. result ≡ length (messages k mailbox)) }
     {
         self.messages.len() as u32
     }
 
     /// What the messages that live count for, each its size and 256 bytes.
     pub fn weight(&self) -> u32
-        ensures { result ≡ weight_of_all self.now.messages }
+        ensures value { result ≡ weight_of_all self.now.messages }
+        ensures history { InEachHistory self.now (λ k mailbox. result ≡ weight_of_all (messages k mailbox)) }
     {
         self.weight
     }
 
     /// Whether flag 0 of a message that lives is on.
     pub fn deletes(&self) -> bool
-        ensures { result ≡ list_any is_deleted self.now.messages }
+        ensures value { result ≡ list_any is_deleted self.now.messages }
+        ensures history { InEachHistory self.now (λ k mailbox. result ≡ list_any is_deleted (messages k mailbox)) }
     {
         messages::any_deleted(&self.messages)
     }
 
     /// The stamp of the uid, where the client has it listed.
     pub fn is_listed(&self, client: Name, uid: u32) -> Option<u64>
-        ensures { result ≡ stamp_at uid (list_of self.now client) }
+        ensures value { result ≡ stamp_at uid (list_of self.now client) }
+        ensures history { InEachHistory self.now (λ k mailbox. result ≡ k.listed client mailbox uid) }
     {
         let list = update_lists::list_of(&self.lists, &client)?;
         list.stamp(uid)
@@ -237,7 +250,8 @@ impl Mailbox {
 
     /// How many uids the client has listed.
     pub fn listed_of(&self, client: Name) -> u32
-        ensures { result ≡ length (list_of self.now client) }
+        ensures value { result ≡ length (list_of self.now client) }
+        ensures history { InEachHistory self.now (λ k mailbox. result ≡ length (k.changes client mailbox)) }
     {
         match update_lists::list_of(&self.lists, &client) {
             Some(list) => list.count(),
@@ -245,10 +259,43 @@ impl Mailbox {
         }
     }
 
+    /// How many changes are on all lists.
+    pub fn listed(&self) -> u64
+        ensures { result ≡ listed_in self.now.lists }
+    {
+        update_lists::count_listed(&self.lists)
+    }
+
     /// How many clients have the uid listed.
     pub fn takers(&self, uid: u32) -> u32
-        ensures { result ≡ takers_of uid self.now.lists }
+        ensures value { result ≡ takers_of uid self.now.lists }
+        ensures history { InEachHistory self.now (λ k mailbox. result ≡ takers_in uid k mailbox) }
     {
         update_lists::count_takers(&self.lists, uid) as u32
+    }
+
+    /// How many changes more the lists would have if all messages were touched for every client.
+    pub fn unlisted(&self) -> u64
+        ensures { result ≡ unlisted_by_all false self.now.messages self.now.lists }
+    {
+        growth::count_unlisted_by_all(&self.lists, &self.messages, false)
+    }
+
+    /// How many changes more the lists would have if the messages whose flag 0 is on were touched
+    /// for every client.
+    pub fn unlisted_deleted(&self) -> u64
+        ensures { result ≡ unlisted_by_all true self.now.messages self.now.lists }
+    {
+        growth::count_unlisted_by_all(&self.lists, &self.messages, true)
+    }
+
+    /// How many changes more the list of a client would have if all messages were touched for it.
+    pub fn unlisted_of(&self, client: Name) -> u64
+        ensures { result ≡ unlisted_for client self.now }
+    {
+        match update_lists::list_of(&self.lists, &client) {
+            Some(list) => growth::count_unlisted(list, &self.messages, false) as u64,
+            None => 0,
+        }
     }
 }

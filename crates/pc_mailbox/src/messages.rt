@@ -1,21 +1,46 @@
 //! The messages of a mailbox, by rising uid.
 
-ghost use Rattle.std.specs.Prelude.{◌≡◌, ◌*◌, ◌≤◌, ◌<◌, true, map, length, option_copied, [], ◌∷◌, ◌++◌, OnOk, IfOk};
-ghost use Rattle.std.specs.List.{list_any, find};
+ghost use Rattle.std.specs.Prelude.{◌≡◌, ◌*◌, ◌≤◌, ◌<◌, not, map, length, take, drop, option_copied, [], ◌∷◌, ◌++◌, OnOk, IfOk};
+ghost use Rattle.std.specs.List.{list_any, filter};
+ghost use Rattle.pc_history.specs.declared.kept.Kept.{Kept};
 ghost use Rattle.pc_history.specs.Record.{kept_at};
 ghost use Rattle.pc_history.specs.Step.{uids_of};
-ghost use Rattle.pc_mailbox.specs.Mailbox.{weight_of_all, is_deleted, deleted, described, is_between, with_flag_at, remaining};
+ghost use Rattle.pc_mailbox.specs.Mailbox.{weight_of_all, is_deleted, deleted, described, is_between, is_below, UidsRise, with_flag_at, remaining};
 
 use pc_base::Memory;
 use pc_history::{Kept, MOST_MESSAGES, is_on, with_flag};
 use pc_message::{Change, Changes, describe};
 use std::alloc::Global;
 
-/// The message with this uid, if it lives.
+/// How many messages have a uid below the bound. They stand in front, since uids rise.
+fn count_below(messages: &[Kept], bound: u64) -> usize
+    requires { UidsRise messages.now }
+    ensures within { result ≤ length messages.now }
+    ensures front { take result messages.now ≡ filter (is_below bound) messages.now }
+    ensures back { drop result messages.now ≡ filter (λ (kept : Kept). not (is_below bound kept)) messages.now }
+{
+    messages.partition_point(|kept| (kept.uid as u64) < bound)
+}
+
+/// The message with this uid, if it lives. Uids rise.
 pub fn find(messages: &[Kept], uid: u32) -> Option<&Kept>
+    requires { UidsRise messages.now }
     ensures { option_copied result ≡ kept_at uid messages.now }
 {
-    messages.iter().find(|kept| kept.uid == uid)
+    let count = count_below(messages, uid as u64);
+    let kept = messages[count..].first()?;
+    if kept.uid == uid { Some(kept) } else { None }
+}
+
+/// The messages from one uid to another, which stand together, since uids rise.
+fn between(messages: &[Kept], low: u32, high: u32) -> &[Kept]
+    requires { UidsRise messages.now }
+    ensures { result.now ≡ filter (is_between low high) messages.now }
+{
+    let end = count_below(messages, high as u64 + 1);
+    let upto = &messages[..end];
+    let start = count_below(upto, low as u64);
+    &upto[start..]
 }
 
 /// The uids of the messages, in order.
@@ -53,45 +78,34 @@ pub fn weight_of(messages: &[Kept]) -> u32
     weight
 }
 
-/// The descriptors of the messages from one uid to another.
+/// The descriptors of the messages from one uid to another. Uids rise.
 pub fn describe_all(
     alloc: Global,
     messages: &[Kept],
     low: u32,
     high: u32,
 ) -> Result<Changes, Memory>
+    requires { UidsRise messages.now }
     ensures { IfOk result (λ changes. changes ≡ described low high messages.now) }
 {
     let mut changes = Changes::new(alloc);
-    for kept in messages {
-        describe_one(alloc, &mut changes, kept, low, high)?;
+    let told = between(messages, low, high);
+    for kept in told {
+        let descriptor = describe(alloc, &kept.message, kept.uid, kept.flags)?;
+        changes.push(Change::Present(descriptor))?;
     }
     Ok(changes)
 }
 
-fn describe_one(
-    alloc: Global,
-    changes: &mut Changes,
-    kept: &Kept,
-    low: u32,
-    high: u32,
-) -> Result<(), Memory>
-    ensures { OnOk result (changes.new ≡ changes.old ++ described low high (kept.now ∷ [])) }
-{
-    if low <= kept.uid && kept.uid <= high {
-        let descriptor = describe(alloc, &kept.message, kept.uid, kept.flags)?;
-        changes.push(Change::Present(descriptor))?;
-    }
-    Ok(())
-}
-
-/// Sets a flag of the message with this uid.
+/// Sets a flag of the message with this uid, if it lives. Uids rise.
 pub fn set_flag(messages: &mut [Kept], uid: u32, flag: u8, on: bool)
-    requires { flag < 16 }
+    requires flag { flag < 16 }
+    requires rise { UidsRise messages.old }
     ensures { messages.new ≡ map (with_flag_at uid flag on) messages.old }
 {
-    for kept in messages.iter_mut() {
-        set_flag_of(kept, uid, flag, on);
+    let place = count_below(messages, uid as u64);
+    if place < messages.len() {
+        set_flag_of(&mut messages[place], uid, flag, on);
     }
 }
 

@@ -5,7 +5,7 @@ ghost use Rattle.std.specs.Vec.{vec_len, vec_capacity};
 ghost use Rattle.std.specs.Map.{lookup, set_value};
 ghost use Rattle.pc_history.specs.Table.{same, map_values, others};
 ghost use Rattle.pc_history.specs.Step.{without, touched, stamped};
-ghost use Rattle.pc_mailbox.specs.UpdateList.{is_on, are_on, all_list, takers_of, Rise, Grown, back_mapped, touched_entry};
+ghost use Rattle.pc_mailbox.specs.UpdateList.{is_on, are_on, all_list, takers_of, listed_in, Rise, Grown, back_mapped, touched_entry};
 
 use crate::update_list::UpdateList;
 use pc_base::{Memory, Name};
@@ -154,6 +154,18 @@ pub fn count_takers(lists: &[(Name, UpdateList)], uid: u32) -> usize
         .iter()
         .filter(|entry| entry.1.stamp(uid).is_some())
         .count()
+}
+
+/// How many changes are on all lists.
+pub fn count_listed(lists: &[(Name, UpdateList)]) -> u64
+    requires { length lists.now ≤ 4294967295 }
+    ensures { result ≡ listed_in lists.now }
+{
+    let mut listed = 0;
+    for entry in lists {
+        listed += entry.1.count() as u64;
+    }
+    listed
 }
 
 /// A list of these uids, which rise, touched by the entry with this number.

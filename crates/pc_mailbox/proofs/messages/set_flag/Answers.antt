@@ -1,12 +1,8 @@
-use Rattle.std.proofs.Common.{arith}
-use Rattle.pc_mailbox.specs.Mailbox.{with_flag_at}
-use Rattle.pc_mailbox.proofs.Fronts.{front-step, front-end}
+use Rattle.pc_mailbox.proofs.Search.{flag-set, flag-none}
 use Rattle.pc_mailbox.proofs.messages.set_flag.Goals as goal
 
-pub loop-kept-preserved : goal.loop-kept-preserved
-loop-kept-preserved c =
-    let f = with_flag_at c.args.uid c.args.flag c.args.on in
-    front-step f c.loop-kept.messages c.args.messages.now c.loop-kept.kept-index c.kept-item.result c.set_flag_of.new.kept c.loop-kept.invariant c.loop-kept-test.true c.set_flag_of.ensures
+pub returns-then-place-messages : goal.returns-then-place-messages
+returns-then-place-messages c = rw c.set_flag_of.ensures (flag-set c.args.uid c.args.flag c.args.on c.args.messages.now c.count_below-place.result c.count_below-place.ensures.front c.index-messages-place.result c.requires.rise c.count_below-place.ensures.back c.if-place-messages.true)
 
-pub returns : goal.returns
-returns c = front-end (with_flag_at c.args.uid c.args.flag c.args.on) c.loop-kept.messages c.args.messages.now c.loop-kept.kept-index c.loop-kept.invariant (omega arith)
+pub returns-else-place-messages : goal.returns-else-place-messages
+returns-else-place-messages c = flag-none c.args.uid c.args.flag c.args.on c.args.messages.now c.count_below-place.result c.count_below-place.ensures.front c.if-place-messages.false

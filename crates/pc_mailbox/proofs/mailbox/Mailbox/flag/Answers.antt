@@ -2,6 +2,9 @@ use Rattle.std.proofs.Common.{◌≡◌, ap, sym, ◌∙◌, arith, length, drop
 use Rattle.pc_mailbox.proofs.Holds.{IsMailbox-flag, short-take, whole}
 use Rattle.pc_mailbox.proofs.mailbox.Mailbox.flag.Goals as goal
 
+pub set_flag-requires-clause-rise : goal.set_flag-requires-clause-rise
+set_flag-requires-clause-rise c = rw c.deref_mut-2.ensures.value c.self.invariant.0.rising.rising
+
 pub invariant_of-self-2 : goal.invariant_of-self-2
 invariant_of-self-2 c =
     let count : c.self.inside.messages.len ≡ length c.set_flag.new.messages = sym (c.set_flag.auto.messages ∙ c.deref_mut-2.ensures.len) in
