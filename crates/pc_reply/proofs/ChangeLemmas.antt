@@ -18,16 +18,16 @@ use Rattle.pc_reply.specs.declared.first_line.FirstLine.TheVariants.{Gone, Count
 use Rattle.pc_reply.proofs.FirstLines.{one_first}
 
 -- the next text has more than 128 bytes
-pub short_up_to : (lines : List (List ℕ)) (cut place : ℕ) (line text : List ℕ) → cut ≡ min 4 (length lines) → place < length (take cut lines) → ((k : ℕ) → k < place → length (get_or (take cut lines) k []) ≤ 128) → line ≡ get_or (take cut lines) place line → text ≡ line → 128 < length text → HasShort lines place
-short_up_to lines cut place line text is below short here same long =
+pub short_up_to : (lines : List (List ℕ)) (cut place : ℕ) (line : List ℕ) → cut ≡ min 4 (length lines) → place < length (take cut lines) → ((k : ℕ) → k < place → length (get_or (take cut lines) k []) ≤ 128) → line ≡ get_or (take cut lines) place line → (IsShort line → ⊥) → HasShort lines place
+short_up_to lines cut place line is below short here long =
     let size : length (take cut lines) ≡ min cut (length lines) = length-take cut lines in
     record {
       few = omega arith;
       within = omega arith;
       short = λ k less. subst IsShort (get_or-take cut lines k [] (omega arith)) (short k less);
       long = λ _ _.
-          let at : text ≡ get_or lines place [] = same ∙ here ∙ get_or_default (take cut lines) place line [] below ∙ get_or-take cut lines place [] (omega arith) in
-          omega (arith, ap length at, long);
+          let at : line ≡ get_or lines place [] = here ∙ get_or_default (take cut lines) place line [] below ∙ get_or-take cut lines place [] (omega arith) in
+          elim (cases_lt 128 (length line)) [ inl past ↦ omega (arith, ap length at, past) | inr few ↦ absurd (long few) ];
     }
 
 -- the first line of a change, and the texts behind it

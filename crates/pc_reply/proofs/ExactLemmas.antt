@@ -13,8 +13,9 @@ use Rattle.pc_reply.specs.declared.reply_feed.ReplyNext.{ReplyNext}
 use Rattle.pc_reply.specs.declared.reply_feed.ReplyNext.TheVariants.{Whole, More, Bad}
 use Rattle.pc_reply.specs.Reply.{IsReply}
 use Rattle.pc_reply.specs.ReplyFeed.{ReplyState, begun}
-use Rattle.pc_reply.specs.Told.{limit_behind, GoesOn, IsOneLine, FitsNone, IsTold, HasCome, Tells}
+use Rattle.pc_reply.specs.Told.{limit_behind, BeginsReply, GoesOn, IsOneLine, FitsNone, IsTold, HasCome, Tells}
 use Rattle.pc_reply.proofs.SpellLemmas.{peel, replies_differ}
+use Rattle.pc_reply.proofs.ToldLemmas.{begins}
 
 -- bytes without LF spell no line
 no_lines : (part : List ℕ) (lines : List (List ℕ)) → has_feed part ≡ false → AreSpellings part lines → part ≡ []
@@ -25,16 +26,33 @@ no_lines part (line ∷ lines) unended (spelling, (others, are)) =
     let has : has_feed part ≡ true = ap has_feed text ∙ has_feed-append s.0 (10 ∷ others) ∙ ap (λ b. b || true) s.1 in
     absurd (false≢true (sym unended ∙ has))
 
--- bytes of which a reply goes on are none
-goes_on_no_reply : (reply : Reply) (bytes : List ℕ) → GoesOn bytes → IsReply reply bytes → ⊥
-goes_on_no_reply reply bytes on (lines, (are, sent)) =
+-- whole lines with which a reply begins and goes on, and a line that hasn't ended, are no reply
+begun_no_reply : (reply : Reply) (bytes whole part : List ℕ) → bytes ≡ whole ++ part → has_feed part ≡ false → BeginsReply whole → IsReply reply bytes → ⊥
+begun_no_reply reply bytes whole part split unended begins (lines, (are, sent)) =
     let P : List ℕ → Type 0 = λ bytes. AreSpellings bytes lines in
-    let found = peel on.whole on.part on.begins.lines lines on.begins.spelled (subst P on.split are) in
-    let none : on.part ≡ [] = no_lines on.part found.0 on.unended found.1.1 in
-    let same : bytes ≡ on.whole = on.split ∙ ap (λ part. on.whole ++ part) none ∙ append-nil on.whole in
+    let found = peel whole part begins.lines lines begins.spelled (subst P split are) in
+    let none : part ≡ [] = no_lines part found.0 unended found.1.1 in
+    let same : bytes ≡ whole = split ∙ ap (λ part. whole ++ part) none ∙ append-nil whole in
     let Q : List ℕ → Type 0 = λ bytes. IsReply reply bytes in
-    let equal = replies_differ reply on.begins.reply on.whole (on.whole ++ on.begins.rest) on.begins.rest [] (subst Q same (lines, (are, sent))) on.begins.is (sym (append-nil (on.whole ++ on.begins.rest))) in
-    omega (arith, ap length equal.0, length-append on.whole on.begins.rest, on.begins.goes_on)
+    let equal = replies_differ reply begins.reply whole (whole ++ begins.rest) begins.rest [] (subst Q same (lines, (are, sent))) begins.is (sym (append-nil (whole ++ begins.rest))) in
+    omega (arith, ap length equal.0, length-append whole begins.rest, begins.goes_on)
+
+-- bytes of which a reply goes on are none
+pub goes_on_no_reply : (reply : Reply) (bytes : List ℕ) → GoesOn bytes → IsReply reply bytes → ⊥
+goes_on_no_reply reply bytes on is =
+    begun_no_reply reply bytes on.whole on.part on.split on.unended on.begins is
+
+-- where a reply is whole, its last line waits
+reply_waits : (state : ReplyState) (reply : Reply) (bytes : List ℕ) → HasCome state bytes → IsReply reply bytes → state.line.is_whole ≡ true
+reply_waits state reply bytes come is = elim (cases_Bool (has_feed come.part)) [
+  | inl e ↦ ap (λ (line : FeedState). line.is_whole) come.line ∙ e
+  | inr e ↦ absurd (begun_no_reply reply bytes come.whole come.part come.split e (begins state.progress come.lines come.whole come.makes come.spelled) is)
+]
+
+-- while a reply waits, nothing is taken
+pub nothing_taken : (old new : ReplyState) (reply : Reply) (bytes piece : List ℕ) (count : ℕ) → HasCome old bytes → IsReply reply bytes → Feeds old.line new.line piece count → (count ≡ 0) × (new.line ≡ old.line)
+nothing_taken old new reply bytes piece count come is feeds =
+    feeds.waits (reply_waits old reply bytes come is)
 
 -- bytes with which no reply begins are none
 fits_none_no_reply : (reply : Reply) (bytes : List ℕ) (place : ℕ) → FitsNone bytes place → IsReply reply bytes → ⊥
@@ -124,16 +142,18 @@ taken_within piece beyond left other ended same = elim (cases_Bool (has_feed pie
     front = omega (arith, ap length (piece_parts left ended), length-append (before_feed left) (10 ∷ drop (length (take_through 10 left)) left))
 
 -- no byte past a reply is taken
-pub takes_just : (old new : ReplyState) (reply : Reply) (bytes left piece beyond other : List ℕ) (count : ℕ) → HasCome old bytes → IsReply reply (bytes ++ left) → 0 < length left → piece ++ beyond ≡ left ++ other → Feeds old.line new.line piece count → count ≤ length left
-takes_just old new reply bytes left piece beyond other count come (lines, (are, sent)) some same feeds = elim (cases_Bool old.line.is_whole) [
+pub takes_just : (old new : ReplyState) (reply : Reply) (bytes left piece beyond other : List ℕ) (count : ℕ) → HasCome old bytes → IsReply reply (bytes ++ left) → piece ++ beyond ≡ left ++ other → Feeds old.line new.line piece count → count ≤ length left
+takes_just old new reply bytes [] piece beyond other count come is same feeds =
+    omega (arith, (nothing_taken old new reply bytes piece count come (subst (λ (bytes : List ℕ). IsReply reply bytes) (append-nil bytes) is) feeds).0)
+takes_just old new reply bytes (b ∷ bs) piece beyond other count come (lines, (are, sent)) same feeds = elim (cases_Bool old.line.is_whole) [
   | inl e ↦ omega (arith, (feeds.waits e).0)
   | inr e ↦ omega (arith, (feeds.takes e).0, within)
 ]
   where
-    within : length (take_through 10 piece) ≤ length left
+    within : length (take_through 10 piece) ≤ length (b ∷ bs)
     within =
-        let end = ends_in_feed (bytes ++ left) lines are (omega (arith, length-append bytes left, some)) in
-        taken_within piece beyond left other (has_the_end bytes left end.0 some end.1) same
+        let end = ends_in_feed (bytes ++ b ∷ bs) lines are (omega (arith, length-append bytes (b ∷ bs))) in
+        taken_within piece beyond (b ∷ bs) other (has_the_end bytes (b ∷ bs) end.0 (omega arith) end.1) same
 
 -- a text that begins with a spelling has an LF
 has_line : (text spelling line rest : List ℕ) → IsSpelling spelling line → text ≡ spelling ++ rest → has_feed text ≡ true

@@ -15,4 +15,6 @@ pub mod SentLemmas
 pub mod SpellLemmas
 pub mod ToldLemmas
 pub mod ExactLemmas
+pub mod CallLemmas
+pub mod PushLemmas
 mod Samples

@@ -1,10 +1,11 @@
 -- What is written for a reply is the reply.
-use Rattle.std.proofs.Common.{◌≡◌, ℕ, ◌≤◌, Bool, true, false, cond, codes, decimal, inl, IsTrue, List, [], ◌∷◌, ◌++◌, length, map, refl, sym, ap, subst, ◌∙◌, arith, append-nil, Option, Result}
+use Rattle.std.proofs.Common.{◌≡◌, ℕ, ◌^◌, ◌<◌, ◌≤◌, Bool, true, false, ◌&&◌, nat_lt, nat_le, length-append, cond, codes, decimal, inl, IsTrue, List, [], ◌∷◌, ◌++◌, length, map, refl, sym, ap, subst, ◌∙◌, arith, append-nil, Option, Result}
 use Rattle.std.specs.Prelude.{MatchBool}
 use Rattle.std.specs.List.{list_any, list_all}
 use Rattle.std.specs.Io.KnownBytes.{Appends}
 use Rattle.std.proofs.lemmas.Bool.{and_parts}
 use Rattle.std.proofs.lemmas.Bool.Decides.{nat_tests}
+use Rattle.std.proofs.lemmas.Fmt.{length-decimal-le}
 use Rattle.pc_base.specs.Name.{is_printed}
 use Rattle.pc_base.specs.Recipient.{is_shown}
 use Rattle.pc_base.specs.Refusal.{head_of, limit_word}
@@ -39,6 +40,12 @@ all_printed_open (byte ∷ bytes) all =
 shown_open : (shown : List ℕ) → IsTrue (is_shown shown) → has_feed shown ≡ false
 shown_open shown fits = all_printed_open shown (and_parts _ (list_all is_printed shown) fits).1
 
+length-shown : (shown : List ℕ) → IsTrue (is_shown shown) → length shown ≤ 64
+length-shown shown fits =
+    let sizes = and_parts (nat_lt 0 (length shown) && nat_le (length shown) 64) (list_all is_printed shown) fits in
+    let few = and_parts (nat_lt 0 (length shown)) (nat_le (length shown) 64) sizes.0 in
+    grind (arith, nat_tests)
+
 limit_open : (limit : LimitWord) → has_feed (limit_word limit) ≡ false
 limit_open limit.Sessions = refl
 limit_open _ = refl
@@ -60,6 +67,31 @@ open-head_text (head.ChangeMissing number) fits =
 open-head_text head.Ok fits = refl
 open-head_text _ fits = refl
 
+-- a head is within its limit
+short-decimal : (n : ℕ) → n < 2 ^ 64 → length (decimal n) ≤ 20
+short-decimal n fits = length-decimal-le 20 n (omega arith) (omega (arith, fits)) fits
+
+short-limit : (limit : LimitWord) → length (limit_word limit) ≤ 13
+short-limit limit.Sessions = omega arith
+short-limit _ = omega arith
+
+short-head_of : (refusal : Refusal) → RefusalFits refusal → length (head_of refusal) ≤ 512
+unfolding head_of
+short-head_of (refused.Superseded number) fits = omega (arith, length-append (codes "407 Superseded by session ") (decimal number), short-decimal number fits)
+short-head_of (refused.UnknownRecipient shown) fits = omega (arith, length-append (codes "416 Unknown recipient ") shown, length-shown shown fits)
+short-head_of (refused.LimitReached limit) fits = omega (arith, length-append (codes "418 Limit reached ") (limit_word limit), short-limit limit)
+short-head_of refused.UnknownOperation fits = omega arith
+short-head_of _ fits = omega arith
+
+short-head_text : (head : Head) → HeadFits head → length (head_text head) ≤ 512
+unfolding head_text
+short-head_text (head.Birth birth) fits = omega (arith, length-append (codes "205 Birth ") (decimal birth), short-decimal birth fits)
+short-head_text (head.Refused refusal) fits = short-head_of refusal fits
+short-head_text (head.ChangeMissing number) fits =
+    omega (arith, length-append (codes "502 Change " ++ decimal number) (codes " is missing"), length-append (codes "502 Change ") (decimal number), short-decimal number fits)
+short-head_text head.Ok fits = omega arith
+short-head_text _ fits = omega arith
+
 -- what is written for a reply, given whether a list follows
 written_by : Bool → Reply → List ℕ
 written_by b reply = written_line (head_text reply.head) ++ cond b (written_body reply.lines) []
@@ -76,9 +108,10 @@ by_list false reply is short fits lines =
     let follows : Follows reply [] = rw is (lines, refl) in
     (text ∷ [], ((written_line text, ([], (refl, (open-head_text reply.head fits, inl refl), refl))), (text, ([], (refl, (refl, fits), short, follows)))))
 
-pub written_is_reply : (reply : Reply) → length (head_text reply.head) ≤ 512 → CanBeSent reply → IsReply reply (written_reply reply)
+pub written_is_reply : (reply : Reply) → CanBeSent reply → IsReply reply (written_reply reply)
 unfolding written_by
-written_is_reply reply short can = by_list (has_list reply.head) reply refl short can.head can.lines
+written_is_reply reply can =
+    by_list (has_list reply.head) reply refl (short-head_text reply.head can.head) can.head can.lines
 
 -- the parts of what is written
 pub written_without : (reply : Reply) → has_list reply.head ≡ false → written_line (head_text reply.head) ≡ written_reply reply

@@ -1,6 +1,8 @@
 -- What the definitions give, worked out by hand.
 use Rattle.std.proofs.Common.{◌≡◌, ℕ, ◌++◌, [], ◌∷◌, true, false, codes, decimal, refl, inr, lit≤}
 use Rattle.std.specs.Str.{bytes_eq}
+use Rattle.std.proofs.lemmas.Bool.{false≢true}
+use Rattle.pc_wire.specs.LineFeed.{fed}
 use Rattle.pc_base.specs.declared.refusal.Refusal.TheVariants as refused
 use Rattle.pc_base.specs.declared.refusal.LimitWord.TheVariants as limit
 use Rattle.pc_message.specs.declared.descriptor.Change.TheVariants.{Expunged}
@@ -8,6 +10,8 @@ use Rattle.pc_reply.specs.declared.head.Head.TheVariants as head
 use Rattle.pc_reply.specs.declared.items.Mode.TheVariants.{Batch}
 use Rattle.pc_reply.specs.Head.{head_text}
 use Rattle.pc_reply.specs.Reply.{IsReply, written_reply}
+use Rattle.pc_reply.specs.ReplyFeed.{no_line, begun}
+use Rattle.pc_reply.specs.Calls.{feed, next, Calls}
 use Rattle.pc_reply.specs.Items.{flag_digits, change_lines, client_text, counted_text}
 use Rattle.pc_reply.specs.Lists.{are_apart}
 use Rattle.pc_base.specs.Refusal.{head_of}
@@ -80,3 +84,29 @@ repeated = refl
 
 not_repeated : are_apart bytes_eq (codes "inbox" ∷ codes "work" ∷ []) ≡ true
 not_repeated = refl
+
+-- a reply in two pieces, of which the second has bytes of the next reply; these stay
+two_pieces : Calls begun (codes "200 Ok" ++ 13 ∷ 10 ∷ codes "221 Closing") (feed (codes "200") ∷ next ∷ feed (codes " Ok" ++ 13 ∷ 10 ∷ codes "221") ∷ []) (record { progress = no_line; place = 0; line = fed 512 (codes "200 Ok" ++ 13 ∷ 10 ∷ []) }) (codes "221 Closing")
+two_pieces = (
+  record { progress = no_line; place = 0; line = fed 512 (codes "200") },
+  (
+    3,
+    (
+      codes " Ok" ++ 13 ∷ 10 ∷ codes "221 Closing",
+      (
+        refl,
+        (record { waits = λ e. absurd (false≢true e); takes = λ _. (refl, refl) }, refl),
+        (
+          record { progress = no_line; place = 0; line = fed 512 (codes "200") },
+          (
+            (refl, refl),
+            (
+              record { progress = no_line; place = 0; line = fed 512 (codes "200 Ok" ++ 13 ∷ 10 ∷ []) },
+              (5, (codes " Closing", (refl, (record { waits = λ e. absurd (false≢true e); takes = λ _. (refl, refl) }, refl), (refl, refl)))),
+            ),
+          ),
+        ),
+      ),
+    ),
+  ),
+)

@@ -78,7 +78,7 @@ no_reply_long (stopped place) lines whole line others reply made are long sent =
 no_reply_long wanting lines whole line others reply made are long sent = absurd made
 
 -- some reply begins with the lines taken
-begins : (progress : Progress) (lines : List (List ℕ)) (whole : List ℕ) → Makes progress lines → AreSpellings whole lines → BeginsReply whole
+pub begins : (progress : Progress) (lines : List (List ℕ)) (whole : List ℕ) → Makes progress lines → AreSpellings whole lines → BeginsReply whole
 begins progress lines whole made are =
     let ends = ends_with progress lines made in
     let last = ends.1.0 in

@@ -1,5 +1,5 @@
 -- Lists and the lines that they are sent as.
-use Rattle.std.specs.Prelude.{◌≡◌, ℕ, suc, zero, ◌+◌, ◌^◌, ◌/◌, ◌%◌, ◌<◌, ◌≤◌, ◌==◌, IsTrue, List, [], ◌∷◌, ◌++◌, length, map, codes, decimal}
+use Rattle.std.specs.Prelude.{◌≡◌, ℕ, suc, zero, ◌+◌, ◌^◌, ◌/◌, ◌%◌, ◌<◌, ◌≤◌, ◌==◌, IsTrue, List, [], ◌∷◌, ◌++◌, length, map, take, codes, decimal}
 use Rattle.std.specs.Str.{bytes_eq}
 use Rattle.pc_base.specs.Name.{is_name}
 use Rattle.pc_message.specs.declared.descriptor.Descriptor.{Descriptor}
@@ -32,6 +32,10 @@ descriptor_lines d =
 abbrev pub change_lines : Change → List (List ℕ)
 change_lines (Present descriptor) = descriptor_lines descriptor
 change_lines (Expunged uid) = gone_text uid ∷ []
+
+-- some of these lines were put behind the old ones, from the first on
+abbrev pub AddsFront : List (List ℕ) → List (List ℕ) → List (List ℕ) → Type 0
+AddsFront old new lines = (count : ℕ) × (new ≡ old ++ take count lines)
 
 -- the uid that a change is of
 abbrev pub uid_of : Change → ℕ

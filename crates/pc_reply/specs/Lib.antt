@@ -8,3 +8,4 @@ pub mod FirstLine
 pub mod ReplyFeed
 pub mod Steps
 pub mod Told
+pub mod Calls

@@ -7,7 +7,7 @@ ghost use Rattle.pc_reply.specs.declared.first_line.FirstLine.{FirstLine};
 
 use crate::flags::flags_text;
 use crate::parts::{first_flags, first_number};
-use crate::text::{Text, is_same};
+use crate::text::Text;
 
 /// What the first line of a change says.
 #[derive(Clone, Copy, Debug, PartialEq, Eq)]
@@ -54,7 +54,7 @@ fn read_gone(line: &[u8]) -> Option<u32>
     let Some((uid, _)) = first_number(line) else {
         return None;
     };
-    if !is_same(gone_text(uid).finished().bytes(), line) {
+    if !gone_text(uid).is_line(line) {
         return None;
     }
     Some(uid)
@@ -78,8 +78,7 @@ fn read_counts(line: &[u8]) -> Option<FirstLine>
     let Some((lines, _)) = first_number(rest) else {
         return None;
     };
-    let text = counts_text(uid, flags, bytes, lines).finished();
-    if !is_same(text.bytes(), line) {
+    if !counts_text(uid, flags, bytes, lines).is_line(line) {
         return None;
     }
     Some(FirstLine::Counts {

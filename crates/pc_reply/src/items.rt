@@ -1,8 +1,8 @@
 //! The lines of lists.
 
-ghost use Rattle.std.specs.Prelude.{◌≡◌, ◌≤◌, ◌++◌, false, length, IfOk, OnOk};
+ghost use Rattle.std.specs.Prelude.{◌≡◌, ◌≤◌, [], ◌∷◌, ◌++◌, false, length, IfOk, OnOk, OnErr};
 ghost use Rattle.pc_base.specs.Line.{has_feed};
-ghost use Rattle.pc_reply.specs.Items.{change_lines, descriptor_lines, client_text, counted_text, mode_word};
+ghost use Rattle.pc_reply.specs.Items.{AddsFront, change_lines, descriptor_lines, client_text, counted_text, mode_word};
 
 use crate::first_line::{counts_text, gone_text};
 use crate::text::Text;
@@ -47,23 +47,26 @@ impl Mode {
 }
 
 /// Adds the lines of a change: five of a message that is there, one of a message that is gone. After
-/// `Err` some of them may have been added.
+/// `Err` the first of them may have been added, and the old ones are as they were.
 pub fn push_change(alloc: Global, lines: &mut Lines, change: &Change) -> Result<(), Memory>
-    ensures { OnOk result (lines.new ≡ lines.old ++ change_lines change.now) }
+    ensures ok { OnOk result (lines.new ≡ lines.old ++ change_lines change.now) }
+    ensures err { OnErr result (AddsFront lines.old lines.new (change_lines change.now)) }
 {
     match change {
         Change::Present(descriptor) => push_descriptor(alloc, lines, descriptor),
-        Change::Expunged(uid) => lines.push(gone_text(*uid).line(alloc)?),
+        Change::Expunged(uid) => push_text(alloc, lines, &gone_text(*uid)),
     }
 }
 
-/// Adds the five lines of a descriptor. After `Err` some of them may have been added.
+/// Adds the five lines of a descriptor. After `Err` the first of them may have been added, and the old
+/// ones are as they were.
 pub fn push_descriptor(
     alloc: Global,
     lines: &mut Lines,
     descriptor: &Descriptor,
 ) -> Result<(), Memory>
-    ensures { OnOk result (lines.new ≡ lines.old ++ descriptor_lines descriptor.now) }
+    ensures ok { OnOk result (lines.new ≡ lines.old ++ descriptor_lines descriptor.now) }
+    ensures err { OnErr result (AddsFront lines.old lines.new (descriptor_lines descriptor.now)) }
 {
     let first = counts_text(
         descriptor.uid,
@@ -71,11 +74,27 @@ pub fn push_descriptor(
         descriptor.bytes,
         descriptor.lines,
     );
-    lines.push(first.line(alloc)?)?;
-    lines.push(copy(alloc, &descriptor.date)?)?;
-    lines.push(copy(alloc, &descriptor.from)?)?;
-    lines.push(copy(alloc, &descriptor.to)?)?;
-    lines.push(copy(alloc, &descriptor.subject)?)
+    push_text(alloc, lines, &first)?;
+    push_copy(alloc, lines, &descriptor.date)?;
+    push_copy(alloc, lines, &descriptor.from)?;
+    push_copy(alloc, lines, &descriptor.to)?;
+    push_copy(alloc, lines, &descriptor.subject)
+}
+
+/// Adds a text as a line. After `Err` nothing has changed.
+fn push_text(alloc: Global, lines: &mut Lines, text: &Text) -> Result<(), Memory>
+    ensures ok { OnOk result (lines.new ≡ lines.old ++ text.now ∷ []) }
+    ensures err { OnErr result (lines.new ≡ lines.old) }
+{
+    lines.push(text.line(alloc)?)
+}
+
+/// Adds a copy of a line. After `Err` nothing has changed.
+fn push_copy(alloc: Global, lines: &mut Lines, line: &Line) -> Result<(), Memory>
+    ensures ok { OnOk result (lines.new ≡ lines.old ++ line.now ∷ []) }
+    ensures err { OnErr result (lines.new ≡ lines.old) }
+{
+    lines.push(copy(alloc, line)?)
 }
 
 /// The line of a client: its name, its birth and how it is used.

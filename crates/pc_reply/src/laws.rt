@@ -1,15 +1,17 @@
 //! Laws of replies and reply feeds. The functions do nothing: each contract is a law.
 
-ghost use Rattle.std.specs.Prelude.{◌≡◌, ℕ, ◌<◌, ◌≤◌, List, [], ◌++◌, ◌⊎◌, length, take, Ok, Err, Result};
+ghost use Rattle.std.specs.Prelude.{◌≡◌, ℕ, ◌≤◌, false, List, [], ◌++◌, ◌⊎◌, length, take, Ok, Err, Result};
 ghost use Rattle.pc_base.specs.declared.failure.Memory.{Memory};
 ghost use Rattle.pc_wire.specs.LineFeed.{Feeds};
 ghost use Rattle.pc_reply.specs.Head.{IsHead};
-ghost use Rattle.pc_reply.specs.Reply.{IsReply};
+ghost use Rattle.pc_reply.specs.Reply.{IsReply, CanBeSent, written_reply};
 ghost use Rattle.pc_reply.specs.ReplyFeed.{ReplyState, begun, Nexts};
 ghost use Rattle.pc_reply.specs.Told.{IsTold, HasCome, Tells};
+ghost use Rattle.pc_reply.specs.Calls.{Call, Calls, Reads};
 ghost use Rattle.pc_reply.specs.declared.head.Head.{Head};
 ghost use Rattle.pc_reply.specs.declared.reply.Reply.{Reply};
 ghost use Rattle.pc_reply.specs.declared.reply_feed.ReplyNext.{ReplyNext};
+ghost use Rattle.pc_reply.specs.declared.reply_feed.ReplyNext.TheVariants.{More};
 
 /// A line is at most one head.
 pub fn one_head_a_line()
@@ -30,11 +32,13 @@ pub fn pieces_come()
         HasCome new (bytes ++ take count piece) }
 {}
 
-/// No byte past a reply is taken.
+/// No byte past a reply is taken, and none at all while a whole one waits for `next`.
 pub fn takes_just_a_reply()
-    ensures { (old new : ReplyState) (reply : Reply) (bytes left piece beyond other : List ℕ) (count : ℕ) →
-        HasCome old bytes → IsReply reply (bytes ++ left) → 0 < length left → piece ++ beyond ≡ left ++ other →
+    ensures within { (old new : ReplyState) (reply : Reply) (bytes left piece beyond other : List ℕ) (count : ℕ) →
+        HasCome old bytes → IsReply reply (bytes ++ left) → piece ++ beyond ≡ left ++ other →
         Feeds old.line new.line piece count → count ≤ length left }
+    ensures waits { (old new : ReplyState) (reply : Reply) (bytes piece : List ℕ) (count : ℕ) → HasCome old bytes →
+        IsReply reply bytes → Feeds old.line new.line piece count → (count ≡ 0) × (new.line ≡ old.line) }
 {}
 
 /// What a call of `next` tells is true of the bytes that came since the last reply, whatever the pieces.
@@ -48,4 +52,23 @@ pub fn truth_is_told()
     ensures one { (bytes : List ℕ) (one other : ReplyNext) → IsTold bytes one → IsTold bytes other → one ≡ other }
     ensures told { (bytes : List ℕ) (next : ReplyNext) (new : ReplyState) (result : Result ReplyNext Memory) →
         IsTold bytes next → Tells bytes new result → (result ≡ Ok next) ⊎ (result ≡ Err (record {})) }
+{}
+
+/// After `More` no line waits, so that `feed` takes bytes where there are any.
+pub fn more_takes_on()
+    ensures { (old new : ReplyState) → Nexts old old.progress new (Ok More) → new.line.is_whole ≡ false }
+{}
+
+/// A reply is read from its bytes, whatever follows them and in any cutting: what is taken is of the
+/// reply alone, and `next` answers the reply once all its bytes are taken, and `More` before, unless
+/// memory is wanted.
+pub fn reply_is_read()
+    ensures { (reply : Reply) (bytes rest left : List ℕ) (calls : List Call) (state : ReplyState) → IsReply reply bytes →
+        Calls begun (bytes ++ rest) calls state left → Reads reply rest state left }
+{}
+
+/// So is what is written for a reply that can be sent.
+pub fn written_is_read()
+    ensures { (reply : Reply) (rest left : List ℕ) (calls : List Call) (state : ReplyState) → CanBeSent reply →
+        Calls begun (written_reply reply ++ rest) calls state left → Reads reply rest state left }
 {}

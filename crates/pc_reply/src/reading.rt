@@ -1,11 +1,11 @@
 //! Lists, read just as they are written.
 
-ghost use Rattle.std.specs.Prelude.{◌≡◌, ℕ, ◌<◌, ◌≤◌, List, length, IfOk, IfSome, MatchResult};
+ghost use Rattle.std.specs.Prelude.{◌≡◌, ℕ, ◌<◌, ◌≤◌, ◌↔◌, List, length, IfOk, IfSome, IsTrue, MatchResult};
 ghost use Rattle.std.specs.BTreeSet.{contains};
 ghost use Rattle.std.specs.Ordering.{nat_cmp};
 ghost use Rattle.pc_message.specs.declared.descriptor.Change.{Change};
 ghost use Rattle.pc_reply.specs.Lists.{ReadsItems};
-ghost use Rattle.pc_reply.specs.Items.{AreChangeLines, AreMailboxLines, MailboxRow, IsRow, change_lines, ChangeFits, uid_of};
+ghost use Rattle.pc_reply.specs.Items.{AreChangeLines, AreMailboxLines, MailboxRow, IsRow, change_lines, ChangeFits, IsShort, uid_of};
 ghost use Rattle.pc_reply.specs.FirstLine.{first_uid};
 ghost use Rattle.pc_reply.specs.Changes.{ReadsItem, ReadsFirst, Learns, HasShort, descriptor_with, IsInReach, fault_after};
 ghost use Rattle.pc_reply.specs.declared.items.ItemFault.TheVariants as fault;
@@ -13,7 +13,6 @@ ghost use Rattle.pc_reply.specs.declared.items.ItemFault.TheVariants as fault;
 use crate::first_line::FirstLine;
 use crate::items::{ItemFault, copy, counted};
 use crate::parts::first_number;
-use crate::text::is_same;
 use pc_base::{Line, Lines, Memory, Name, Names};
 use pc_message::{Change, Changes, Descriptor};
 use pc_wire::next_word;
@@ -132,11 +131,18 @@ fn short_texts(lines: &[Line]) -> usize
 {
     let front = &lines[..4usize.min(lines.len())];
     for (place, line) in front.iter().enumerate() {
-        if line.bytes().len() > 128 {
+        if !is_short(line) {
             return place;
         }
     }
     front.len()
+}
+
+/// Whether the line has at most 128 bytes.
+fn is_short(line: &Line) -> bool
+    ensures { IsTrue result ↔ IsShort line.now }
+{
+    line.bytes().len() <= 128
 }
 
 /// The descriptor of these counts and the first four lines.
@@ -180,8 +186,7 @@ fn read_row(line: &[u8]) -> Option<Name>
     let Some((highest, _)) = first_number(rest) else {
         return None;
     };
-    let text = counted(&name, live, highest).finished();
-    if !is_same(text.bytes(), line) {
+    if !counted(&name, live, highest).is_line(line) {
         return None;
     }
     Some(name)

@@ -75,10 +75,16 @@ fn bad_place(alloc: Global, bytes: &[u8]) -> Result<Option<u64>, Fail> {
 fn check_head(rt: &impl Abort, alloc: Global, head: Head, text: &[u8]) -> Result<(), Fail> {
     assert_eq!(rt; head.text().bytes(), text);
     let lines = Lines::new(alloc);
+    let end: &[u8] = if head.has_list() {
+        b"\r\n.\r\n"
+    } else {
+        b"\r\n"
+    };
     let mut sink = MemorySink::new(alloc).in_pieces(7);
     Reply { head, lines }.write(&mut sink)?;
     let written = sink.bytes();
     assert!(rt; written.starts_with(text));
+    assert_eq!(rt; written.get(text.len()..), Some(end));
     for cut in 0..written.len() {
         let (reply, taken) = read_cut(alloc, written, cut)?;
         assert_eq!(rt; reply.head.text().bytes(), text);
@@ -95,7 +101,9 @@ fn heads_without_more(rt: HostRuntime) -> Result<(), Fail> {
         (Head::ListFollows, b"201 List follows"),
         (Head::MessageFollows, b"202 Message follows"),
         (
-            Head::Birth { birth: u64::MAX },
+            Head::Birth {
+                birth: 18_446_744_073_709_551_615,
+            },
             b"205 Birth 18446744073709551615",
         ),
         (Head::Ready, b"220 pcmail DMSP ready"),
@@ -108,8 +116,10 @@ fn heads_without_more(rt: HostRuntime) -> Result<(), Fail> {
             b"502 Change 0 is missing",
         ),
         (
-            Head::ChangeMissing { number: 17 },
-            b"502 Change 17 is missing",
+            Head::ChangeMissing {
+                number: 18_446_744_073_709_551_615,
+            },
+            b"502 Change 18446744073709551615 is missing",
         ),
     ];
     for (head, text) in heads {
@@ -129,8 +139,10 @@ fn heads_of_refusals(rt: HostRuntime) -> Result<(), Fail> {
         (Refusal::BadUserOrPassword, b"405 Bad user or password"),
         (Refusal::NoSuchClient, b"406 No such client"),
         (
-            Refusal::Superseded { number: 5 },
-            b"407 Superseded by session 5",
+            Refusal::Superseded {
+                number: 18_446_744_073_709_551_615,
+            },
+            b"407 Superseded by session 18446744073709551615",
         ),
         (Refusal::NoMailboxSelected, b"408 No mailbox selected"),
         (Refusal::NoSuchMailbox, b"409 No such mailbox"),
@@ -188,10 +200,12 @@ fn lines_that_are_no_heads(rt: HostRuntime) -> Result<(), Fail> {
         b"205 Birth 18446744073709551616",
         b"206 Number 1 made 3",
         b"407 Superseded by session 00",
+        b"407 Superseded by session 18446744073709551616",
         b"416 Unknown recipient ",
         b"416 Unknown recipient a b",
         b"418 Limit reached uid",
         b"424 Client exists",
+        b"502 Change 18446744073709551616 is missing",
         b"502 Change 1 is missing.",
         b"502 Change  is missing",
         b"502 Change ",
@@ -363,12 +377,14 @@ fn mailboxes_are_read(rt: HostRuntime) -> Result<(), Fail> {
     let work = Name::read(b"work").ok_or("a name")?;
     let mut lines = Lines::new(alloc);
     lines.push(counted_line(alloc, &inbox, 0, 0)?)?;
-    lines.push(counted_line(alloc, &work, 0, 4_294_967_295)?)?;
-    assert!(rt; are_lines(&lines, &[b"inbox 0 0", b"work 0 4294967295"]));
+    lines.push(counted_line(alloc, &work, 0, 0)?)?;
+    assert!(rt; are_lines(&lines, &[b"inbox 0 0", b"work 0 0"]));
     let names = read_mailboxes(alloc, &lines)?;
     assert_eq!(rt; names.as_slice().len(), 2);
     assert!(rt; names.as_slice()[0] == inbox);
     assert!(rt; names.as_slice()[1] == work);
+    let largest = lines_of(alloc, &[b"work 4294967295 4294967295"])?;
+    assert_eq!(rt; read_mailboxes(alloc, &largest)?.as_slice().len(), 1);
     let rows: [(&[&[u8]], usize); 6] = [
         (&[b"inbox 0 0", b"work 0 0", b"inbox 1 1"], 2),
         (&[b"inbox 00 0"], 0),

@@ -77,6 +77,13 @@ impl Text {
         ShortText::copy_of(&self.bytes)
     }
 
+    /// Whether the line is just the text.
+    pub fn is_line(&self, line: &[u8]) -> bool
+        ensures { IsTrue result ↔ (self.now ≡ line.now) }
+    {
+        is_same(&self.bytes, line)
+    }
+
     /// The text as a line.
     pub fn line(&self, alloc: Global) -> Result<Line, Memory>
         ensures { IfOk result (λ line. line ≡ self.now) }

@@ -26,13 +26,13 @@ returns-in_default-first_number-2-clause-every c = λ uid flags bytes lines is.
     let third = c.in-Some-first_number.ensures bytes (decimal lines ∷ []) is.1.2 second.1 in
     absurd (c.in_default-first_number-2.ensures lines [] is.1.3 third.1)
 
-pub returns-then-not-is_same-clause-every : goal.returns-then-not-is_same-clause-every
-returns-then-not-is_same-clause-every c = λ uid flags bytes lines is.
+pub returns-then-not-is_line-clause-every : goal.returns-then-not-is_line-clause-every
+returns-then-not-is_line-clause-every c = λ uid flags bytes lines is.
     let first = c.in-Some.ensures uid (flag_digits 16 flags ∷ decimal bytes ∷ decimal lines ∷ []) is.1.0 (counts_words c.args.line.now uid flags bytes lines is) in
     let second = c.in-Some-first_flags.ensures flags (decimal bytes ∷ decimal lines ∷ []) is.1.1 first.1 in
     let third = c.in-Some-first_number.ensures bytes (decimal lines ∷ []) is.1.2 second.1 in
     let fourth = c.in-Some-first_number-2.ensures lines [] is.1.3 third.1 in
-    absurd (false≢true (c.if-not-is_same.ensures.1 (c.bytes.ensures.value ∙ c.finished-text.ensures.value ∙ c.counts_text.ensures ∙ rw (first.0, second.0, third.0, fourth.0) (sym is.0))))
+    absurd (false≢true (c.if-not-is_line.ensures.1 (c.counts_text.ensures ∙ rw (first.0, second.0, third.0, fourth.0) (sym is.0))))
 
 pub returns-clause-every : goal.returns-clause-every
 returns-clause-every c = λ uid flags bytes lines is.

@@ -8,10 +8,10 @@ pub returns-in_default-clause-every : goal.returns-in_default-clause-every
 returns-in_default-clause-every c = λ uid is.
     absurd (c.in_default.ensures uid (codes "EXPUNGED" ∷ []) is.1 (gone_words c.args.line.now uid is))
 
-pub returns-then-not-is_same-clause-every : goal.returns-then-not-is_same-clause-every
-returns-then-not-is_same-clause-every c = λ uid is.
+pub returns-then-not-is_line-clause-every : goal.returns-then-not-is_line-clause-every
+returns-then-not-is_line-clause-every c = λ uid is.
     let found = c.in-Some.ensures uid (codes "EXPUNGED" ∷ []) is.1 (gone_words c.args.line.now uid is) in
-    absurd (false≢true (c.if-not-is_same.ensures.1 (c.bytes.ensures.value ∙ c.finished.ensures.value ∙ c.gone_text.ensures ∙ ap gone_text found.0 ∙ sym is.0)))
+    absurd (false≢true (c.if-not-is_line.ensures.1 (c.gone_text.ensures ∙ ap gone_text found.0 ∙ sym is.0)))
 
 pub returns-clause-every : goal.returns-clause-every
 returns-clause-every c = λ uid is.

@@ -1,4 +1,4 @@
-use Rattle.std.proofs.Common.{length, ap, sym, ◌∙◌, arith}
+use Rattle.std.proofs.Common.{sym, ◌∙◌}
 use Rattle.std.proofs.lemmas.Result.{err_from_is_err_and}
 use Rattle.pc_reply.proofs.ReplyLemmas.{written_is_reply, head_stops, list_ends}
 use Rattle.pc_reply.proofs.reply.Reply.write.Goals as goal
@@ -10,11 +10,11 @@ returns-in_err-write_line-clause-content g c =
 
 pub returns-in_err-write_line-clause-reply : goal.returns-in_err-write_line-clause-reply
 returns-in_err-write_line-clause-reply g c =
-    written_is_reply c.args.self.now (omega (arith, c.bytes.ensures.short, ap length c.text.ensures))
+    written_is_reply c.args.self.now
 
 pub returns-then-not-has_list-clause-reply : goal.returns-then-not-has_list-clause-reply
 returns-then-not-has_list-clause-reply g c =
-    written_is_reply c.args.self.now (omega (arith, c.bytes.ensures.short, ap length c.text.ensures))
+    written_is_reply c.args.self.now
 
 pub returns-clause-content : goal.returns-clause-content
 returns-clause-content g c =
@@ -22,4 +22,4 @@ returns-clause-content g c =
 
 pub returns-clause-reply : goal.returns-clause-reply
 returns-clause-reply g c =
-    written_is_reply c.args.self.now (omega (arith, c.bytes.ensures.short, ap length c.text.ensures))
+    written_is_reply c.args.self.now
