@@ -3,4 +3,5 @@ mod NoteLemmas
 mod ReplayLemmas
 mod StateLemmas
 mod Samples
-mod StepLemmas
+mod FolderLemmas
+pub mod StepRuns

@@ -9,3 +9,10 @@ pub mod Notes
 pub mod Memory
 pub mod MemoryLaws
 pub mod Steps
+pub mod Folder
+pub mod Shelf
+pub mod MemoryFolder
+pub mod Silent
+pub mod FolderLaws
+pub mod StepFaults
+pub mod StillLaws

@@ -91,6 +91,20 @@ impl MemoryDisk {
         self.alarm.is_stopped
     }
 
+    /// The count of faults.
+    pub(crate) fn faults(&self) -> u64
+        ensures { result ≡ self.now.faults }
+    {
+        self.faults
+    }
+
+    /// Sets the count of faults to 0.
+    pub(crate) fn forget_faults(&mut self)
+        ensures { self.new ≡ record self.old { faults = 0 } }
+    {
+        self.faults = 0;
+    }
+
     /// The disk after a crash, by the choice that is armed, or by `Lose`. Nothing is pending then,
     /// nothing armed and nothing reserved.
     pub fn crashed(self) -> MemoryDisk
@@ -274,9 +288,10 @@ impl Disk for MemoryDisk {
     }
 }
 
-// Counts a fault.
-fn fault(faults: &mut u64) -> Failed
-    ensures { faults.new ≡ min (faults.old + 1) (2 ^ 64 - 1) }
+/// Counts a fault.
+pub fn fault(faults: &mut u64) -> Failed
+    ensures counted { faults.new ≡ min (faults.old + 1) (2 ^ 64 - 1) }
+    ensures later { faults.old ≤ faults.new }
 {
     *faults = faults.saturating_add(1);
     Failed

@@ -1,10 +1,11 @@
-//! Steps: a device call and its sync, from one settled disk to the next.
+//! Steps: a device call and its sync, after which the disk is settled.
 
 ghost use Rattle.std.specs.Prelude.{◌≡◌, ◌+◌, ◌<◌, ◌≤◌, length, take, OnOk, OnErr};
 ghost use Rattle.pc_base.specs.Stream.{Rose};
 ghost use Rattle.pc_disk.specs.Images.{area_of, with_area, overwritten, Torn, TornCut, InArea};
-ghost use Rattle.pc_disk.specs.Outcomes.{Only, LeavesOnly};
+ghost use Rattle.pc_disk.specs.Outcomes.{Only, LeavesOnly, SameDue};
 ghost use Rattle.pc_disk.specs.Steps.{step_calls};
+ghost use Rattle.pc_disk.specs.StepFaults.{FailsWhereDue, LeadsOn};
 
 use crate::disk::Disk;
 
@@ -15,17 +16,19 @@ pub enum StepFault {
     Sync,
 }
 
-/// Writes and syncs. A crash at each moment leaves what stood before, or that with the write torn.
+/// Writes and syncs. A crash at each moment leaves what it might have left before, or that with the
+/// write torn.
 pub fn put<D: Disk>(disk: &mut D, area: u8, at: u64, bytes: &[u8]) -> Result<(), StepFault>
     requires area { area < 2 }
     requires place { D.tells → at ≤ length (area_of area (D.seen disk.old)) }
-    requires settled { D.tells → Only (D.seen disk.old) (D.may_leave disk.old) }
     requires calls { 2 ≤ D.spare_calls disk.old }
     requires bytes { length bytes.now ≤ D.spare_bytes disk.old }
     ensures written { D.tells → OnOk result (D.seen disk.new ≡ with_area area (overwritten at bytes.now (area_of area (D.seen disk.old))) (D.seen disk.old)) }
     ensures settled { D.tells → OnOk result (Only (D.seen disk.new) (D.may_leave disk.new)) }
-    ensures any_moment { D.tells → LeavesOnly D.moment D.left_since disk.old disk.new (InArea area (Torn at (length bytes.now)) (D.seen disk.old)) }
+    ensures any_moment { D.tells → LeavesOnly D.moment D.left_since disk.old disk.new (LeadsOn (InArea area (Torn at (length bytes.now))) (D.may_leave disk.old)) }
     ensures moment { D.moment disk.new ≡ D.moment disk.old + step_calls result }
+    ensures due { D.tells_due → FailsWhereDue result (D.moment disk.old) (D.due disk.old) }
+    ensures ahead { D.tells_due → SameDue (D.moment disk.new) (D.due disk.old) (D.due disk.new) }
     ensures faults { D.faults disk.old ≤ D.faults disk.new }
     ensures cause { OnErr result (Rose (D.faults disk.old) (D.faults disk.new)) }
     ensures taken { D.taken disk.new ≡ D.taken disk.old }
@@ -41,16 +44,18 @@ pub fn put<D: Disk>(disk: &mut D, area: u8, at: u64, bytes: &[u8]) -> Result<(),
     Ok(())
 }
 
-/// Cuts and syncs. A crash at each moment leaves what stood before, or that with the cut torn.
+/// Cuts and syncs. A crash at each moment leaves what it might have left before, or that with the cut
+/// torn.
 pub fn trim<D: Disk>(disk: &mut D, area: u8, to: u64) -> Result<(), StepFault>
     requires area { area < 2 }
     requires place { D.tells → to ≤ length (area_of area (D.seen disk.old)) }
-    requires settled { D.tells → Only (D.seen disk.old) (D.may_leave disk.old) }
     requires calls { 2 ≤ D.spare_calls disk.old }
     ensures cut { D.tells → OnOk result (D.seen disk.new ≡ with_area area (take to (area_of area (D.seen disk.old))) (D.seen disk.old)) }
     ensures settled { D.tells → OnOk result (Only (D.seen disk.new) (D.may_leave disk.new)) }
-    ensures any_moment { D.tells → LeavesOnly D.moment D.left_since disk.old disk.new (InArea area (TornCut to) (D.seen disk.old)) }
+    ensures any_moment { D.tells → LeavesOnly D.moment D.left_since disk.old disk.new (LeadsOn (InArea area (TornCut to)) (D.may_leave disk.old)) }
     ensures moment { D.moment disk.new ≡ D.moment disk.old + step_calls result }
+    ensures due { D.tells_due → FailsWhereDue result (D.moment disk.old) (D.due disk.old) }
+    ensures ahead { D.tells_due → SameDue (D.moment disk.new) (D.due disk.old) (D.due disk.new) }
     ensures faults { D.faults disk.old ≤ D.faults disk.new }
     ensures cause { OnErr result (Rose (D.faults disk.old) (D.faults disk.new)) }
     ensures taken { D.taken disk.new ≡ D.taken disk.old }

@@ -1,8 +1,10 @@
-//! Tables worked out by hand: a write, a sync, a write and a cut, of which one fails or stops the disk.
+//! Tables worked out by hand: a write, a sync, a write and a cut, of which one fails or stops the disk;
+//! folders; a disk that tells nothing.
 
 ghost use Rattle.std.specs.Prelude.{◌≡◌, ◌<◌, ◌≤◌, IfOk, []};
 
-use crate::{Choice, Disk, MemoryDisk, StepFault, put, trim};
+use crate::{Choice, Disk, Folder, MemoryDisk, MemoryFolder, SilentDisk, StepFault, put, trim};
+use pc_base::{Name, StoreName};
 use std::alloc::Global;
 use std::process::Abort;
 use std::test::Fail;
@@ -19,13 +21,20 @@ fn four_calls(disk: &mut MemoryDisk) -> [bool; 4]
     [first, second, third, fourth]
 }
 
-// Whether area 0 is read as these bytes, of which there are fewer than eight.
-fn is_read(disk: &mut MemoryDisk, bytes: &[u8]) -> bool {
+// Whether an area is read as these bytes, of which there are fewer than eight.
+fn has<D: Disk>(disk: &mut D, area: u8, bytes: &[u8]) -> bool
+    requires { area < 2 }
+{
     let mut buffer = [0; 8];
-    let Ok(count) = disk.read(0, 0, &mut buffer) else {
+    let Ok(count) = disk.read(area, 0, &mut buffer) else {
         return false;
     };
     &buffer[..count] == bytes
+}
+
+// Whether area 0 is read as these bytes.
+fn is_read<D: Disk>(disk: &mut D, bytes: &[u8]) -> bool {
+    has(disk, 0, bytes)
 }
 
 // A disk with room for the four calls.
@@ -113,6 +122,69 @@ fn the_disk_stops(rt: HostRuntime) -> Result<(), Fail> {
     Ok(())
 }
 
+// One call fails and the disk stops at another, or the same.
+fn fails_and_stops(
+    rt: &impl Abort,
+    alloc: Global,
+    fails: u32,
+    stops: u32,
+    choice: Choice,
+    succeed: [bool; 4],
+    left: &[u8],
+) -> Result<(), Fail>
+    requires fails { 0 < fails }
+    requires stops { 0 < stops }
+{
+    let mut disk = roomy(alloc)?;
+    disk.fail_at(fails);
+    disk.stop_at(stops, choice);
+    assert!(rt; four_calls(&mut disk) == succeed);
+    assert!(rt; disk.stopped());
+    assert!(rt; is_read(&mut disk.crashed(), left));
+    Ok(())
+}
+
+#[test]
+fn a_call_fails_and_the_disk_stops(rt: HostRuntime) -> Result<(), Fail> {
+    let alloc = rt.alloc();
+    let second = [false, true, false, false];
+    fails_and_stops(&rt, alloc, 1, 3, Choice::Keep, second, &[7, 8])?;
+    fails_and_stops(&rt, alloc, 1, 3, Choice::Lose, second, &[])?;
+    fails_and_stops(&rt, alloc, 1, 3, Choice::Fill(9), second, &[9, 9])?;
+    let first = [true, false, false, false];
+    fails_and_stops(&rt, alloc, 2, 3, Choice::Keep, first, &[7, 8, 3])?;
+    fails_and_stops(&rt, alloc, 2, 3, Choice::Fill(9), first, &[9, 9, 9])?;
+    let both = [true, true, false, false];
+    fails_and_stops(&rt, alloc, 3, 3, Choice::Keep, both, &[7, 8, 3])?;
+    fails_and_stops(&rt, alloc, 4, 3, Choice::Lose, both, &[1, 2, 3])
+}
+
+// Area 1 is synced with two bytes, of which the last is written anew: what a crash leaves there.
+fn crash_of_area_1(
+    rt: &impl Abort,
+    alloc: Global,
+    choice: Choice,
+    left: &[u8],
+) -> Result<(), Fail> {
+    let mut disk = roomy(alloc)?;
+    disk.write(1, 0, &[5, 6])?;
+    disk.sync()?;
+    disk.write(1, 1, &[8])?;
+    disk.stop_at(1, choice);
+    let mut crashed = disk.crashed();
+    assert!(rt; has(&mut crashed, 0, &[]));
+    assert!(rt; has(&mut crashed, 1, left));
+    Ok(())
+}
+
+#[test]
+fn the_other_area_crashes_alike(rt: HostRuntime) -> Result<(), Fail> {
+    let alloc = rt.alloc();
+    crash_of_area_1(&rt, alloc, Choice::Keep, &[5, 8])?;
+    crash_of_area_1(&rt, alloc, Choice::Lose, &[5, 6])?;
+    crash_of_area_1(&rt, alloc, Choice::Fill(3), &[5, 3])
+}
+
 #[test]
 fn both_areas_are_read(rt: HostRuntime) -> Result<(), Fail> {
     let mut disk = roomy(rt.alloc())?;
@@ -139,5 +211,145 @@ fn steps_are_settled(rt: HostRuntime) -> Result<(), Fail> {
     failing.fail_at(2);
     assert!(rt; put(&mut failing, 0, 0, &[1, 2, 3]) == Err(StepFault::Sync));
     assert!(rt; is_read(&mut failing.crashed(), &[]));
+    Ok(())
+}
+
+// Makes room, writes these bytes at the front of area 0 and syncs.
+fn store<D: Disk>(disk: &mut D, bytes: &[u8]) -> Result<(), Fail> {
+    let Ok(()) = disk.reserve(0, bytes.len() as u64) else {
+        return Err(Fail::from("memory"));
+    };
+    disk.write(0, 0, bytes)?;
+    disk.sync()?;
+    Ok(())
+}
+
+// Stores these bytes on the disk of a name.
+fn store_in<F: Folder>(folder: &mut F, name: &StoreName, bytes: &[u8]) -> Result<(), Fail> {
+    let mut disk = folder.take(name)?;
+    let stored = store(&mut disk, bytes);
+    folder.back(name, disk);
+    stored
+}
+
+// Whether the disk of a name reads as these bytes. It is given back.
+fn stands<F: Folder>(folder: &mut F, name: &StoreName, bytes: &[u8]) -> bool {
+    let Ok(mut disk) = folder.take(name) else {
+        return false;
+    };
+    let reads = is_read(&mut disk, bytes);
+    folder.back(name, disk);
+    reads
+}
+
+// The names of a store of each kind, of two users.
+fn names() -> Result<[StoreName; 4], Fail> {
+    let ann = Name::read(b"ann").ok_or("a name")?;
+    let bob = Name::read(b"bob").ok_or("a name")?;
+    Ok([
+        StoreName::Office,
+        StoreName::Account { user: ann },
+        StoreName::Account { user: bob },
+        StoreName::Client {
+            user: ann,
+            client: bob,
+        },
+    ])
+}
+
+#[test]
+fn each_name_has_its_disk(rt: HostRuntime) -> Result<(), Fail> {
+    let mut folder = MemoryFolder::new(rt.alloc());
+    let [office, ann, bob, client] = names()?;
+    assert!(rt; stands(&mut folder, &ann, &[]));
+    store_in(&mut folder, &office, &[1])?;
+    store_in(&mut folder, &ann, &[2, 2])?;
+    store_in(&mut folder, &client, &[3])?;
+    store_in(&mut folder, &ann, &[4])?;
+    assert!(rt; stands(&mut folder, &office, &[1]));
+    assert!(rt; stands(&mut folder, &ann, &[4, 2]));
+    assert!(rt; stands(&mut folder, &bob, &[]));
+    assert!(rt; stands(&mut folder, &client, &[3]));
+    Ok(())
+}
+
+#[test]
+fn a_disk_is_given_back_under_another_name(rt: HostRuntime) -> Result<(), Fail> {
+    let mut folder = MemoryFolder::new(rt.alloc());
+    let [office, ann, bob, _] = names()?;
+    store_in(&mut folder, &office, &[1])?;
+    store_in(&mut folder, &ann, &[2])?;
+    let disk = folder.take(&ann)?;
+    assert!(rt; stands(&mut folder, &ann, &[]));
+    folder.back(&office, disk);
+    assert!(rt; stands(&mut folder, &office, &[2]));
+    assert!(rt; stands(&mut folder, &bob, &[]));
+    Ok(())
+}
+
+#[test]
+fn a_folder_fails(rt: HostRuntime) -> Result<(), Fail> {
+    let mut folder = MemoryFolder::new(rt.alloc());
+    let [office, ..] = names()?;
+    store_in(&mut folder, &office, &[1])?;
+    folder.fail_at(2);
+    assert!(rt; stands(&mut folder, &office, &[1]));
+    assert!(rt; folder.take(&office).is_err());
+    assert!(rt; stands(&mut folder, &office, &[1]));
+    Ok(())
+}
+
+#[test]
+fn a_disk_in_a_folder_is_armed(rt: HostRuntime) -> Result<(), Fail> {
+    let mut folder = MemoryFolder::new(rt.alloc());
+    let [office, ..] = names()?;
+    let mut disk = folder.take(&office)?;
+    let mut armed = MemoryDisk::new(rt.alloc());
+    armed.fail_at(1);
+    let empty = disk.exchange(armed);
+    assert!(rt; !empty.stopped());
+    folder.back(&office, disk);
+    let mut disk = folder.take(&office)?;
+    let Ok(()) = disk.reserve(0, 8) else {
+        return Err(Fail::from("memory"));
+    };
+    assert!(rt; disk.write(0, 0, &[1]).is_err());
+    assert!(rt; disk.write(0, 0, &[2]).is_ok());
+    assert!(rt; is_read(&mut disk, &[2]));
+    Ok(())
+}
+
+// Whether there is room for the bytes, and they are put at this place of area 0.
+fn puts(disk: &mut SilentDisk<MemoryDisk>, at: u64, bytes: &[u8; 2]) -> bool {
+    let Ok(()) = disk.reserve(0, 8) else {
+        return false;
+    };
+    put(disk, 0, at, bytes).is_ok()
+}
+
+#[test]
+fn a_disk_that_tells_nothing(rt: HostRuntime) -> Result<(), Fail> {
+    let mut inner = MemoryDisk::new(rt.alloc());
+    inner.fail_at(3);
+    let mut disk = SilentDisk::new(inner);
+    assert!(rt; puts(&mut disk, 0, &[1, 2]));
+    assert!(rt; !puts(&mut disk, 2, &[3, 4]));
+    assert!(rt; is_read(&mut disk, &[1, 2]));
+    assert!(rt; !puts(&mut disk, 3, &[5, 6]));
+    assert!(rt; puts(&mut disk, 2, &[7, 8]));
+    assert!(rt; is_read(&mut disk, &[1, 2, 7, 8]));
+    assert!(rt; disk.length(0) == Ok(4));
+    Ok(())
+}
+
+// What can go to another thread.
+fn is_sent<T: Send>(_value: &T) {}
+
+#[test]
+fn disks_go_to_other_threads(rt: HostRuntime) -> Result<(), Fail> {
+    let mut folder = MemoryFolder::new(rt.alloc());
+    is_sent(&folder);
+    is_sent(&folder.take(&StoreName::Office)?);
+    is_sent(&SilentDisk::new(MemoryDisk::new(rt.alloc())));
     Ok(())
 }
