@@ -1,6 +1,7 @@
 //! The operations that a request can name.
 
-ghost use Rattle.std.specs.Prelude.{◌≡◌, ◌≤◌, length, IfSome, IfNone};
+ghost use Rattle.std.specs.Prelude.{◌≡◌, ◌≤◌, ◌↔◌, length, map, IfSome, IfNone, IsTrue};
+ghost use Rattle.std.specs.Char.{to_ascii_lowercase};
 ghost use Rattle.pc_request.specs.Operation.{word_of, operations, operation_named, IsNamed};
 ghost use Rattle.pc_request.specs.declared.operation.Operation.{Operation};
 
@@ -90,7 +91,7 @@ impl Operation {
         ensures unknown { IfNone result ((operation : Operation) → ¬ IsNamed operation word.now) }
     {
         for operation in Operation::all() {
-            if word.eq_ignore_ascii_case(operation.word()) {
+            if is_spelled(word, operation.word()) {
                 return Some(*operation);
             }
         }
@@ -137,4 +138,11 @@ impl Operation {
             Operation::SendMessage => b"SEND-MESSAGE",
         }
     }
+}
+
+/// Whether the bytes are the word, in capitals or small letters. Most are in capitals, and compare at once.
+fn is_spelled(bytes: &[u8], word: &[u8]) -> bool
+    ensures same { IsTrue result ↔ (map to_ascii_lowercase bytes.now ≡ map to_ascii_lowercase word.now) }
+{
+    bytes == word || bytes.eq_ignore_ascii_case(word)
 }

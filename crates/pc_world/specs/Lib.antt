@@ -3,6 +3,7 @@ pub mod Events
 pub mod Repository
 pub mod Reading
 pub mod Replay
+pub mod Rows
 pub mod Runs
 pub mod Steps
 pub mod View

@@ -1,7 +1,8 @@
 -- How a replay goes on, and how it ends.
-use Rattle.std.specs.Prelude.{◌≡◌, ℕ, List, [], ◌∷◌, ◌++◌, Option, Some, IfSome, Result, Ok, Err, ◌⊎◌}
+use Rattle.std.specs.Prelude.{◌≡◌, ℕ, List, [], ◌∷◌, ◌++◌, Option, Some, IfSome, Result, Ok, Err, ◌⊎◌, length, take}
 use Rattle.std.specs.Io.KnownBytes.{Appends}
 use Rattle.pc_base.specs.declared.failure.Failed.{Failed}
+use Rattle.pc_base.specs.declared.failure.Memory.{Memory as MemoryWanted}
 use Rattle.pc_base.specs.Stream.{AppendsFront, Rose}
 use Rattle.pc_wire.specs.Lines.{lines_of}
 use Rattle.pc_wire.specs.Reader.{IfTold, TakesLine}
@@ -11,6 +12,11 @@ use Rattle.pc_world.specs.declared.replaying.ReplayEnd.TheVariants.{Done, Refuse
 use Rattle.pc_world.specs.declared.turn.Turn.{Turn}
 use Rattle.pc_world.specs.declared.turn.Turn.TheVariants as turn
 use Rattle.pc_world.specs.Runs.{Plays, GoesOn, IsRun, IsRefused, IsFront, IsOfForm, text_of}
+
+-- the bytes stand behind the text, or memory was wanted and the text is still in front
+abbrev pub Adds : List ℕ → List ℕ → List ℕ → Result Unit MemoryWanted → Type 0
+Adds text text' bytes (Ok done) = text' ≡ text ++ bytes
+Adds text text' bytes (Err memory) = take (length text) text' ≡ text
 
 -- a line was played, or refused, or memory was wanted; the text has what was printed behind it
 abbrev pub PlaysLine : List Account → List Account → List ℕ → List ℕ → List ℕ → Turn → Type 0

@@ -1,5 +1,5 @@
 -- What a repository of one thread answers to what is asked in a session without client.
-use Rattle.std.specs.Prelude.{ℕ, List, [], ◌++◌, map, codes, decimal, Option, None, Result, Ok, Err}
+use Rattle.std.specs.Prelude.{ℕ, List, [], codes, Option, None, Result, Ok, Err}
 use Rattle.pc_base.specs.Refusal.{head_of}
 use Rattle.pc_base.specs.declared.refusal.Refusal.{Refusal}
 use Rattle.pc_base.specs.declared.refusal.Refusal.TheVariants as refusal
@@ -9,12 +9,17 @@ use Rattle.pc_request.specs.declared.request.RequestFault.{RequestFault}
 use Rattle.pc_request.specs.declared.request.RequestFault.TheVariants as fault
 use Rattle.pc_account.specs.History.{History}
 use Rattle.pc_account.specs.Answers.{planned, rows_of}
-use Rattle.pc_account.specs.declared.answer.MailboxRow.{MailboxRow}
 use Rattle.pc_account.specs.declared.entry.Entry.{Entry}
 use Rattle.pc_account.specs.declared.entry.Wish.TheVariants as wish
 use Rattle.pc_world.specs.declared.event.Asked.{Asked}
-use Rattle.pc_world.specs.declared.repository.Reply.{Reply}
+use Rattle.pc_world.specs.Rows.{lines_of}
 use Rattle.pc_world.specs.declared.event.Asked.TheVariants.{TooLong, Faulty, Read}
+
+-- a reply: its first line, the lines of its list, and the entry of the account that is kept with it, if there is one
+pub record Reply : Type 0 where
+  pub head : List ℕ
+  pub lines : List (List ℕ)
+  pub entry : Option Entry
 
 -- a refusal: nothing is kept
 abbrev pub refused : List ℕ → Reply
@@ -32,10 +37,6 @@ abbrev pub reply_to_plan : Result (Option Entry) Refusal → Reply
 reply_to_plan (Ok entry) = record { head = codes "200 Ok"; lines = []; entry = entry }
 reply_to_plan (Err why) = refused (head_of why)
 
--- a line of a list of mailboxes
-abbrev pub mailbox_line : MailboxRow → List ℕ
-mailbox_line row = row.name ++ codes " " ++ decimal row.live ++ codes " " ++ decimal row.highest
-
 -- the reply with a list
 abbrev pub listed : List (List ℕ) → Reply
 listed lines = record { head = codes "201 List follows"; lines = lines; entry = None }
@@ -43,7 +44,7 @@ listed lines = record { head = codes "201 List follows"; lines = lines; entry = 
 -- the reply to a request; an operation that isn't built yet is unknown
 unfoldable pub reply_to_request : History → Request → Reply
 reply_to_request history (request.CreateMailbox mailbox) = reply_to_plan (planned history (wish.MakeMailbox mailbox))
-reply_to_request history request.ListMailboxes = listed (map mailbox_line (rows_of history))
+reply_to_request history request.ListMailboxes = listed (lines_of (rows_of history))
 reply_to_request history _ = refused (head_of refusal.UnknownOperation)
 
 -- the reply to what is asked

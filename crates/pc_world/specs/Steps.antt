@@ -8,8 +8,7 @@ use Rattle.pc_account.specs.declared.entry.Entry.TheVariants.{MakeMailbox, Passw
 use Rattle.pc_world.specs.declared.event.Event.{Event}
 use Rattle.pc_world.specs.declared.event.Event.TheVariants.{Silent, User, Ask}
 use Rattle.pc_world.specs.Account.{Account}
-use Rattle.pc_world.specs.Repository.{reply_to}
-use Rattle.pc_world.specs.declared.repository.Reply.{Reply}
+use Rattle.pc_world.specs.Repository.{Reply, reply_to}
 
 -- the entries of a new user's account: the password, and the inbox
 abbrev pub enrolled : List ℕ → List ℕ → List Entry
@@ -29,8 +28,11 @@ with_entry user kept account =
 abbrev pub indented : List ℕ → List ℕ
 indented line = 32 ∷ 32 ∷ line
 
+abbrev pub shown : List ℕ → List ℕ → List (List ℕ) → List (List ℕ)
+shown user head lines = (codes "ask " ++ user ++ codes ": " ++ head) ∷ map indented lines
+
 abbrev pub printed_reply : List ℕ → Reply → List (List ℕ)
-printed_reply user reply = (codes "ask " ++ user ++ codes ": " ++ reply.head) ∷ map indented reply.lines
+printed_reply user reply = shown user reply.head reply.lines
 
 abbrev pub printed_user : List ℕ → List (List ℕ)
 printed_user name = (codes "user " ++ name ++ codes ": 200 Ok") ∷ []
@@ -48,6 +50,10 @@ Step old (User name password) printed new =
     (old ≡ []) × (printed ≡ printed_user name) × (new ≡ record { user = name; entries = enrolled name password } ∷ [])
 Step old (Ask user asked) printed new =
     MatchOption (entries_of old user) ⊥ (λ entries. Answers old user (reply_to (history_of entries) asked) printed new)
+
+-- the event prints lines that lead to what is printed now, and leaves the new world
+abbrev pub Prints : {T : Type 0} → List Account → Event → List Account → (List (List ℕ) → T → Type 0) → T → Type 0
+Prints old event new Adds now = (printed : List (List ℕ)) × (Step old event printed new × Adds printed now)
 
 -- the event names what is there
 abbrev pub fits : List Account → Event → Bool

@@ -6,11 +6,11 @@ pub mod laws;
 mod reading;
 mod replaying;
 mod repository;
+mod transcript;
 mod turn;
 mod world;
 
 pub use event::{Asked, Event, EventFault};
 pub use reading::read_event;
 pub use replaying::{ReplayEnd, replay};
-pub use repository::Reply;
 pub use world::World;

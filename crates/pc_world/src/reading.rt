@@ -33,10 +33,7 @@ pub fn read_event(line: &[u8]) -> Result<Event, EventFault>
     if is_silent_line(line) {
         return Ok(Event::Silent);
     }
-    let Some(event) = said(line) else {
-        return Err(EventFault::Bad);
-    };
-    Ok(event)
+    said(line)
 }
 
 fn is_silent_line(line: &[u8]) -> bool
@@ -49,11 +46,11 @@ fn is_silent_line(line: &[u8]) -> bool
 }
 
 /// The event that a line says which isn't silent.
-fn said(line: &[u8]) -> Option<Event>
+fn said(line: &[u8]) -> Result<Event, EventFault>
     ensures { Says line.now result }
 {
     let Some((word, rest)) = next_word(line) else {
-        return None;
+        return Err(EventFault::Bad);
     };
     if word == b"user".as_slice() {
         return said_user(rest);
@@ -61,43 +58,43 @@ fn said(line: &[u8]) -> Option<Event>
     if word == b"ask".as_slice() {
         return said_ask(rest);
     }
-    None
+    Err(EventFault::Bad)
 }
 
 /// The user that the words behind `user` name.
-fn said_user(words: &[u8]) -> Option<Event>
+fn said_user(words: &[u8]) -> Result<Event, EventFault>
     ensures { SaysUser words.now result }
 {
     let Some((name, rest)) = next_word(words) else {
-        return None;
+        return Err(EventFault::Bad);
     };
     let Some((password, rest)) = next_word(rest) else {
-        return None;
+        return Err(EventFault::Bad);
     };
     if next_word(rest).is_some() {
-        return None;
+        return Err(EventFault::Bad);
     }
     let Some(name) = Name::read(name) else {
-        return None;
+        return Err(EventFault::Bad);
     };
     let Some(password) = Password::read(password) else {
-        return None;
+        return Err(EventFault::Bad);
     };
-    Some(Event::User { name, password })
+    Ok(Event::User { name, password })
 }
 
 /// What the words behind `ask` ask for.
-fn said_ask(words: &[u8]) -> Option<Event>
+fn said_ask(words: &[u8]) -> Result<Event, EventFault>
     ensures { SaysAsk words.now result }
 {
     let Some((user, rest)) = next_word(words) else {
-        return None;
+        return Err(EventFault::Bad);
     };
     let Some(user) = Name::read(user) else {
-        return None;
+        return Err(EventFault::Bad);
     };
     let asked = asked(without_spaces(rest));
-    Some(Event::Ask { user, asked })
+    Ok(Event::Ask { user, asked })
 }
 
 /// What a text asks for.

@@ -1,17 +1,16 @@
 //! The replay of a script: its lines are read, played and written as a transcript.
 
-ghost use Rattle.std.specs.Prelude.{◌≡◌, ℕ, ◌≤◌, List, [], ◌++◌, OnOk, OnErr, length, take};
+ghost use Rattle.std.specs.Prelude.{◌≡◌, ℕ, ◌≤◌, List, []};
 ghost use Rattle.pc_base.specs.Stream.{Rose, HasCause};
 ghost use Rattle.pc_wire.specs.Next.{ShowsLine};
 ghost use Rattle.pc_wire.specs.Reader.{TakesFront, no_line, unread};
 ghost use Rattle.pc_world.specs.Replay.{PlaysLine, TakesTurn, Finishes, Sends, Ends, Completes, Refuses};
-ghost use Rattle.pc_world.specs.Runs.{text_of};
 
 use crate::laws::{refused_once, refused_or_run};
 use crate::reading::read_event;
 use crate::turn::Turn;
 use crate::world::World;
-use pc_base::{Bytes, Failed, Memory, Printed, Sink, Source, write_all};
+use pc_base::{Failed, Sink, Source, write_all};
 use pc_wire::{Fetched, LineReader, Next};
 use std::alloc::Global;
 
@@ -177,41 +176,17 @@ fn play_shown(alloc: Global, shown: Next<'_>, world: &mut World, text: &mut Vec<
 fn play_line(alloc: Global, line: &[u8], world: &mut World, text: &mut Vec<u8>) -> Turn
     ensures { PlaysLine world.old world.new text.old.items text.new.items line.now result }
 {
-    let Ok(event) = read_event(line) else {
+    let read = read_event(line);
+    let Ok(event) = &read else {
         return Turn::Refused;
     };
-    if !world.fits(&event) {
+    if !world.fits(event) {
         return Turn::Refused;
     }
-    let Ok(printed) = world.play(alloc, &event) else {
-        return Turn::Memory;
-    };
-    if append_lines(text, printed.as_slice()).is_err() {
+    let length = text.len();
+    if world.play_into(alloc, event, text).is_err() {
+        text.truncate(length);
         return Turn::Memory;
     }
     Turn::Played
-}
-
-/// Puts lines of a transcript behind the text, each with its LF. After `Err` the text is as before.
-fn append_lines(text: &mut Vec<u8>, lines: &[Bytes]) -> Result<(), Memory>
-    ensures ok { OnOk result (text.new.items ≡ text.old.items ++ text_of lines.now) }
-    ensures err { OnErr result (text.new.items ≡ text.old.items) }
-{
-    let length = text.len();
-    if push_lines(text, lines).is_err() {
-        text.truncate(length);
-        return Err(Memory);
-    }
-    Ok(())
-}
-
-fn push_lines(text: &mut Vec<u8>, lines: &[Bytes]) -> Result<(), Memory>
-    ensures ok { OnOk result (text.new.items ≡ text.old.items ++ text_of lines.now) }
-    ensures front { take (length text.old.items) text.new.items ≡ text.old.items }
-{
-    for line in lines {
-        text.extend_from_slice(line.as_slice())?;
-        text.push(b'\n')?;
-    }
-    Ok(())
 }

@@ -1,20 +1,16 @@
 //! The world of a script: its users and their accounts.
 
-ghost use Rattle.std.specs.Prelude.{◌≡◌, [], ◌∷◌, ◌++◌, is_some, IsTrue, IfOk, IfSome, OnOk};
-ghost use Rattle.std.specs.Option.{option_to_list};
-ghost use Rattle.pc_account.specs.History.{history_of, is_allowed};
+ghost use Rattle.std.specs.Prelude.{◌≡◌, [], ◌∷◌, is_some, IsTrue, IfOk, OnOk, OnErr};
 ghost use Rattle.pc_world.specs.declared.event.Event.TheVariants.{Ask};
-ghost use Rattle.pc_world.specs.Steps.{Step, enrolled, entries_of, fits as suits, indented, printed_reply as shown_reply, printed_user as shown_user};
+ghost use Rattle.pc_world.specs.Steps.{Prints, Step, enrolled, entries_of, fits as suits, printed_user};
 
 use crate::event::{Asked, Event};
-use crate::repository::{Reply, reply_to};
+use crate::repository::answer;
+use crate::transcript::Transcript;
 use pc_account::{Account, Entry, digest};
-use pc_base::{Bytes, Memory, Name, Password, Printed};
+use pc_base::{Memory, Name, Password, Printed};
 use std::alloc::Global;
 use std::marker::Model;
-
-/// Room for the first line that an event prints: its word, a name and a reply's head.
-const LINE_ROOM: usize = 136;
 
 /// A user and the account.
 #[derive(Drop)]
@@ -63,10 +59,28 @@ impl World {
         requires { IsTrue (suits self.old event.now) }
         ensures { IfOk result (λ printed. Step self.old event.now printed self.new) }
     {
+        let mut printed = Printed::new(alloc);
+        let Ok(()) = self.play_into(alloc, event, &mut printed) else {
+            return Err(Memory);
+        };
+        Ok(printed)
+    }
+
+    /// Plays an event, and prints its lines. After `Err` some of them may be printed, and the world isn't used again.
+    pub(crate) fn play_into<T: Transcript>(
+        &mut self,
+        alloc: Global,
+        event: &Event,
+        transcript: &mut T,
+    ) -> Result<(), Memory>
+        requires { IsTrue (suits self.old event.now) }
+        ensures ok { OnOk result (Prints self.old event.now self.new (T.adds transcript.old) transcript.new) }
+        ensures err { OnErr result (T.keeps transcript.old transcript.new) }
+    {
         match event {
-            Event::Silent => Ok(Printed::new(alloc)),
-            Event::User { name, password } => self.enrol(alloc, name, password),
-            Event::Ask { user, asked } => self.ask(alloc, user, asked),
+            Event::Silent => Ok(()),
+            Event::User { name, password } => self.enrol(alloc, name, password, transcript),
+            Event::Ask { user, asked } => self.ask(alloc, user, asked, transcript),
         }
     }
 
@@ -79,40 +93,44 @@ impl World {
         }
     }
 
-    fn enrol(&mut self, alloc: Global, name: &Name, password: &Password) -> Result<Printed, Memory>
-        ensures { IfOk result (λ printed. (printed ≡ shown_user name.now)
-            × (self.new ≡ record { user = name.now; entries = enrolled name.now password.now } ∷ [])) }
+    fn enrol<T: Transcript>(
+        &mut self,
+        alloc: Global,
+        name: &Name,
+        password: &Password,
+        transcript: &mut T,
+    ) -> Result<(), Memory>
+        ensures world { OnOk result (self.new ≡ record { user = name.now; entries = enrolled name.now password.now } ∷ []) }
+        ensures ok { OnOk result (T.adds transcript.old (printed_user name.now) transcript.new) }
+        ensures err { OnErr result (T.keeps transcript.old transcript.new) }
     {
-        let account = enrolled_account(alloc, name, password)?;
+        let Ok(account) = enrolled_account(alloc, name, password) else {
+            return Err(Memory);
+        };
         self.user = Some(User {
             name: *name,
             account,
         });
-        printed_user(alloc, name)
+        transcript.print_user(alloc, name)
     }
 
-    fn ask(&mut self, alloc: Global, name: &Name, asked: &Asked) -> Result<Printed, Memory>
+    fn ask<T: Transcript>(
+        &mut self,
+        alloc: Global,
+        name: &Name,
+        asked: &Asked,
+        transcript: &mut T,
+    ) -> Result<(), Memory>
         requires { IsTrue (is_some (entries_of self.old name.now)) }
-        ensures { IfOk result (λ printed. Step self.old (Ask name.now asked.now) printed self.new) }
+        ensures ok { OnOk result (Prints self.old (Ask name.now asked.now) self.new (T.adds transcript.old) transcript.new) }
+        ensures err { OnErr result (T.keeps transcript.old transcript.new) }
     {
         let Some(mut user) = self.user.take() else {
             unreachable!();
         };
-        let reply = reply_to(alloc, &user.account, asked)?;
-        keep(&mut user.account, &reply.entry)?;
+        let answered = answer(alloc, &mut user.account, name, asked, transcript);
         self.user = Some(user);
-        printed_reply(alloc, name, &reply)
-    }
-}
-
-/// Adds the entry of a reply, if there is one.
-fn keep(account: &mut Account, entry: &Option<Entry>) -> Result<(), Memory>
-    requires { IfSome entry.now (λ e. IsTrue (is_allowed (history_of account.old) e)) }
-    ensures { OnOk result (account.new ≡ account.old ++ option_to_list entry.now) }
-{
-    match entry {
-        None => Ok(()),
-        Some(entry) => account.apply(entry),
+        answered
     }
 }
 
@@ -127,34 +145,4 @@ fn enrolled_account(alloc: Global, name: &Name, password: &Password) -> Result<A
     let mailbox = Name::read(b"inbox").unwrap();
     account.apply(&Entry::MakeMailbox { mailbox })?;
     Ok(account)
-}
-
-fn printed_user(alloc: Global, name: &Name) -> Result<Printed, Memory>
-    ensures { IfOk result (λ printed. printed ≡ shown_user name.now) }
-{
-    let mut line = Bytes::copy_of(alloc, b"user ")?;
-    line.append(name.bytes())?;
-    line.append(b": 200 Ok")?;
-    let mut printed = Printed::new(alloc);
-    printed.push(line)?;
-    Ok(printed)
-}
-
-fn printed_reply(alloc: Global, user: &Name, reply: &Reply) -> Result<Printed, Memory>
-    ensures { IfOk result (λ printed. printed ≡ shown_reply user.now reply.now) }
-{
-    let mut first = Bytes::with_capacity(alloc, LINE_ROOM)?;
-    first.append(b"ask ")?;
-    first.append(user.bytes())?;
-    first.append(b": ")?;
-    first.append(reply.head.bytes())?;
-    let mut printed = Printed::new(alloc);
-    printed.push(first)?;
-    for line in reply.lines.as_slice() {
-        let mut shown = Bytes::with_capacity(alloc, line.as_slice().len() + 2)?;
-        shown.append(b"  ")?;
-        shown.append(line.as_slice())?;
-        printed.push(shown)?;
-    }
-    Ok(printed)
 }

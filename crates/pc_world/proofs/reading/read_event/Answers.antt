@@ -1,11 +1,16 @@
-use Rattle.std.proofs.Common.{sym, ◌∙◌}
-use Rattle.pc_world.proofs.OneEvent.{no_event, one_event}
+use Rattle.std.proofs.Common.{◌≡◌, false, sym, ◌∙◌, arith}
+use Rattle.pc_world.specs.Events.{is_silent}
+use Rattle.pc_world.proofs.OneEvent.{said_ok, said_only, said_bad}
 use Rattle.pc_world.proofs.reading.read_event.Goals as goal
 
-pub returns-in_default-clause-bad : goal.returns-in_default-clause-bad
-returns-in_default-clause-bad c =
-    no_event c.args.line.now (sym c.is_silent_line.ensures ∙ c.if-is_silent_line.false) c.in_default.ensures
+loud : (c : goal.After-said) → is_silent c.args.line.now ≡ false
+loud c = sym c.is_silent_line.ensures ∙ c.if-is_silent_line.false
+
+pub returns-clause-ok : goal.returns-clause-ok
+returns-clause-ok c = said_ok c.args.line.now c.said.result (omega arith) (loud c) c.said.ensures
 
 pub returns-clause-only : goal.returns-clause-only
-returns-clause-only c =
-    one_event c.args.line.now c.in-Some.event (sym c.is_silent_line.ensures ∙ c.if-is_silent_line.false) c.in-Some.ensures.1
+returns-clause-only c = said_only c.args.line.now c.said.result (loud c) c.said.ensures
+
+pub returns-clause-bad : goal.returns-clause-bad
+returns-clause-bad c = said_bad c.args.line.now c.said.result (loud c) c.said.ensures

@@ -8,13 +8,13 @@ use Rattle.pc_request.proofs.operation.Operation.named.Goals as goal
 
 pub loop-operation-preserved : goal.loop-operation-preserved
 loop-operation-preserved c =
-    let fails : is_named _ c.args.word.now ≡ false = is_named-is _ c.args.word.now c.word.result.now c.eq_ignore_ascii_case.result c.word.ensures.value c.eq_ignore_ascii_case.ensures.test ∙ c.if-eq_ignore_ascii_case.false in
+    let fails : is_named _ c.args.word.now ≡ false = is_named-is _ c.args.word.now c.word.result.now c.is_spelled.result c.word.ensures.value c.is_spelled.ensures.same ∙ c.if-is_spelled.false in
     find_more (λ operation. is_named operation c.args.word.now) c.all-operation-items.result.now c.loop-operation.operation-index SendVersion c.loop-operation-test.true fails
     ∙ c.loop-operation.invariant
 
-pub returns-then-eq_ignore_ascii_case-clause-value : goal.returns-then-eq_ignore_ascii_case-clause-value
-returns-then-eq_ignore_ascii_case-clause-value c =
-    let passes : is_named _ c.args.word.now ≡ true = is_named-is _ c.args.word.now c.word.result.now c.eq_ignore_ascii_case.result c.word.ensures.value c.eq_ignore_ascii_case.ensures.test ∙ c.if-eq_ignore_ascii_case.true in
+pub returns-then-is_spelled-clause-value : goal.returns-then-is_spelled-clause-value
+returns-then-is_spelled-clause-value c =
+    let passes : is_named _ c.args.word.now ≡ true = is_named-is _ c.args.word.now c.word.result.now c.is_spelled.result c.word.ensures.value c.is_spelled.ensures.same ∙ c.if-is_spelled.true in
     sym (find_here (λ operation. is_named operation c.args.word.now) c.all-operation-items.result.now c.loop-operation.operation-index SendVersion c.loop-operation-test.true passes)
     ∙ c.loop-operation.invariant
 

@@ -1,7 +1,0 @@
--- The lines so far stand behind the text.
-use Rattle.std.proofs.Common.{◌≡◌, ◌++◌, take}
-use Rattle.pc_world.specs.Runs.{text_of}
-use Rattle.pc_world.proofs.replaying.push_lines.Given as goal
-
-abbrev pub invariant-loop-line : goal.invariant-loop-line
-invariant-loop-line l = l.text.items ≡ l.initial.text.items ++ text_of (take l.line-index l.lines)
