@@ -1,218 +1,94 @@
-//! The account of one user, over the list of its entries.
+//! The account of one user.
 
-ghost use Rattle.std.specs.Prelude.{◌≡◌, not, ◌&&◌, [], ◌∷◌, ◌++◌, map, IsTrue, OnOk, OnErr, IfOk, IfSome};
-ghost use Rattle.pc_account.specs.declared.entry.Wish.TheVariants.{MakeMailbox};
-ghost use Rattle.pc_account.specs.History.{history_of, is_live, names_made, has_room, is_allowed, password, is_password, IsLegal, makes as making, makes_some, added_by, digest_set, later_or};
-ghost use Rattle.pc_account.specs.Answers.{planned, told, row_of, rows_of, HasAnswer};
+ghost use Rattle.std.specs.Prelude.{◌≡◌, ◌≤◌, ◌-◌, ◌^◌, false, IsTrue, OnOk, OnErr, IfOk};
+ghost use Rattle.std.specs.Option.{option_map_or};
+ghost use Rattle.std.specs.Map.{lookup};
+ghost use Rattle.pc_history.specs.Table.{same};
+ghost use Rattle.pc_history.specs.History.{History, ◌▸◌, known, birth, next};
+ghost use Rattle.pc_account.specs.State.{new_state, said, StandsFor, may_follow, step};
 
-use crate::answer::{Answer, MailboxRow, MailboxRows, Question};
-use crate::entry::{AskFault, Entry, Wish};
-use pc_base::{LimitWord, Memory, Name, Refusal};
+use crate::holdings::Holdings;
+use pc_base::{Memory, Name};
+use pc_history::Entry;
 use std::alloc::Global;
 use std::marker::Model;
 
-/// The most names of mailboxes that an account makes.
-const MOST_MAILBOXES: usize = 64;
-
-/// One user's mail state. Contracts see it as its entries, oldest first; they are a legal history.
+/// One user's mail state. Contracts see the record of its history, with the number of the next entry.
 #[derive(Drop)]
 pub struct Account {
-    entries: Vec<Entry>,
+    pub(crate) holdings: Holdings,
 }
 
 impl Model for Account {
-    ghost use Rattle.std.specs.Prelude.{List};
-    ghost use Rattle.pc_account.specs.declared.entry.Entry.{Entry};
-    ghost use Rattle.pc_account.specs.History.{history_of, IsLegal};
+    ghost use Rattle.std.specs.Prelude.{◌≤◌, ◌^◌};
+    ghost use Rattle.pc_history.specs.Legal.{IsCanonical};
+    ghost use Rattle.pc_account.specs.State.{State};
 
-    ghost Value = { List Entry };
+    ghost Value = { State };
 
-    ghost view = { λ account. account.entries.items };
+    ghost view = { λ account. account.holdings };
 
-    ghost invariant = { λ account. IsLegal (history_of account.entries.items) };
+    ghost invariant = { λ account. IsCanonical account.holdings.held account.holdings.next × (account.holdings.next ≤ 2 ^ 63) };
 }
 
 impl Account {
     /// An account without entries.
-    pub fn empty(alloc: Global) -> Account
-        ensures { result ≡ [] }
+    pub fn empty(alloc: Global) -> Result<Account, Memory>
+        ensures { IfOk result (λ account. account ≡ new_state) }
     {
-        Account {
-            entries: Vec::new(alloc),
+        Ok(Account {
+            holdings: Holdings::empty(alloc),
+        })
+    }
+
+    /// Makes the step of an entry that may come next. After `Err` the account isn't used again; it
+    /// is empty.
+    pub fn apply(&mut self, alloc: Global, entry: &Entry) -> Result<(), Memory>
+        requires allowed { IsTrue (may_follow (said self.old) entry.now) }
+        requires next { self.old.next ≤ 2 ^ 63 - 1 }
+        ensures ok { OnOk result (self.new ≡ step self.old entry.now) }
+        ensures history { (h : History) → StandsFor self.old h → OnOk result (StandsFor self.new (h ▸ entry.now)) }
+        ensures err { OnErr result (self.new ≡ new_state) }
+    {
+        if self.holdings.step(alloc, entry).is_err() {
+            self.holdings = Holdings::empty(alloc);
+            return Err(Memory);
         }
-    }
-
-    /// The entries, oldest first. They are a legal history.
-    pub fn entries(&self) -> &[Entry]
-        ensures value { result.now ≡ self.now }
-        ensures legal { IsLegal (history_of self.now) }
-    {
-        self.entries.as_slice()
-    }
-
-    /// Whether the entry may come next.
-    pub fn allows(&self, entry: &Entry) -> bool
-        ensures { result ≡ is_allowed (history_of self.now) entry.now }
-    {
-        match entry {
-            Entry::MakeMailbox { mailbox } => may_make(&self.entries, mailbox),
-            Entry::Password { digest } => !is_present(&self.entries, digest),
-        }
-    }
-
-    /// Adds an entry. After `Err` nothing has changed.
-    pub fn apply(&mut self, entry: &Entry) -> Result<(), Memory>
-        requires { IsTrue (is_allowed (history_of self.old) entry.now) }
-        ensures ok { OnOk result (self.new ≡ self.old ++ entry.now ∷ []) }
-        ensures err { OnErr result (self.new ≡ self.old) }
-    {
-        self.entries.push(*entry)?;
         Ok(())
     }
 
-    /// The entry that a wish comes to, or none where it holds already. Refused is a mailbox that is
-    /// there (410), and one more name than 64 (418).
-    pub fn plan(&self, wish: &Wish) -> Result<Option<Entry>, AskFault>
-        ensures exact { result ≡ told (planned (history_of self.now) wish.now) }
-        ensures allowed { IfOk result (λ entry. IfSome entry (λ e. IsTrue (is_allowed (history_of self.now) e))) }
-    {
-        match wish {
-            Wish::MakeMailbox { mailbox } => planned_mailbox(&self.entries, mailbox),
-            Wish::Password { digest } => {
-                if is_present(&self.entries, digest) {
-                    return Ok(None);
-                }
-                Ok(Some(Entry::Password { digest: *digest }))
-            }
-        }
-    }
-
-    /// The answer to a question. Nothing but want of memory keeps it back.
-    pub fn answer(&self, alloc: Global, question: &Question) -> Result<Answer, AskFault>
-        ensures { HasAnswer (history_of self.now) question.now result }
-    {
-        match question {
-            Question::Mailboxes => {
-                let Ok(rows) = rows(alloc, &self.entries) else {
-                    return Err(AskFault::Memory);
-                };
-                Ok(Answer::Mailboxes(MailboxRows { rows }))
-            }
-        }
-    }
-
-    /// Whether this is the digest of the present password.
+    /// Whether this is the digest of the password.
     pub fn password_is(&self, digest: &[u8; 32]) -> bool
-        ensures { result ≡ is_password (password (history_of self.now)) digest.now }
+        ensures held { result ≡ option_map_or (same digest.now) (said self.now).digest false }
+        ensures history { (h : History) → StandsFor self.now h → result ≡ option_map_or (same digest.now) (known h).digest false }
     {
-        is_present(&self.entries, digest)
-    }
-}
-
-fn may_make(entries: &[Entry], mailbox: &Name) -> bool
-    requires { IsLegal (history_of entries.now) }
-    ensures { result ≡ (not (is_live (history_of entries.now) mailbox.now) && has_room (history_of entries.now) mailbox.now) }
-{
-    if has_mailbox(entries, mailbox) {
-        return false;
-    }
-    count_mailboxes(entries) < MOST_MAILBOXES
-}
-
-fn planned_mailbox(entries: &[Entry], mailbox: &Name) -> Result<Option<Entry>, AskFault>
-    requires { IsLegal (history_of entries.now) }
-    ensures { result ≡ told (planned (history_of entries.now) (MakeMailbox mailbox.now)) }
-{
-    if has_mailbox(entries, mailbox) {
-        return Err(AskFault::Refused(Refusal::MailboxExists));
-    }
-    if count_mailboxes(entries) >= MOST_MAILBOXES {
-        let limit = LimitWord::Mailboxes;
-        return Err(AskFault::Refused(Refusal::LimitReached { limit }));
-    }
-    Ok(Some(Entry::MakeMailbox { mailbox: *mailbox }))
-}
-
-fn has_mailbox(entries: &[Entry], mailbox: &Name) -> bool
-    ensures { result ≡ is_live (history_of entries.now) mailbox.now }
-{
-    for entry in entries {
-        if makes(entry, mailbox) {
-            return true;
+        match self.holdings.digest() {
+            None => false,
+            Some(present) => *digest == present,
         }
     }
-    false
-}
 
-fn makes(entry: &Entry, mailbox: &Name) -> bool
-    ensures { result ≡ making entry.now mailbox.now }
-{
-    match entry {
-        Entry::MakeMailbox { mailbox: made } => *made == *mailbox,
-        Entry::Password { .. } => false,
+    /// The number of the entry that made the client last, where the client is there.
+    pub fn birth(&self, client: &Name) -> Option<u64>
+        ensures held { result ≡ lookup (same client.now) (said self.now).clients }
+        ensures history { (h : History) → StandsFor self.now h → result ≡ birth h client.now }
+    {
+        self.holdings.birth(client)
     }
-}
 
-fn count_mailboxes(entries: &[Entry]) -> usize
-    requires { IsLegal (history_of entries.now) }
-    ensures { result ≡ names_made (history_of entries.now) }
-{
-    entries.iter().filter(|entry| is_making(entry)).count()
-}
-
-fn is_making(entry: &Entry) -> bool
-    ensures { result ≡ makes_some entry.now }
-{
-    matches!(entry, Entry::MakeMailbox { .. })
-}
-
-fn is_present(entries: &[Entry], digest: &[u8; 32]) -> bool
-    ensures { result ≡ is_password (password (history_of entries.now)) digest.now }
-{
-    match present_digest(entries) {
-        None => false,
-        Some(present) => present == *digest,
+    /// The number of the last mail pulled.
+    pub fn pulled(&self) -> u64
+        ensures held { result ≡ (said self.now).pulled }
+        ensures history { (h : History) → StandsFor self.now h → result ≡ (known h).pulled }
+    {
+        self.holdings.pulled()
     }
-}
 
-fn present_digest(entries: &[Entry]) -> Option<[u8; 32]>
-    ensures { result ≡ password (history_of entries.now) }
-{
-    let mut present = None;
-    for entry in entries {
-        present = digest_after(entry, present);
+    /// The number of the next entry.
+    pub fn next(&self) -> u64
+        ensures held { result ≡ self.now.next }
+        ensures history { (h : History) → StandsFor self.now h → result ≡ next h }
+    {
+        self.holdings.next()
     }
-    present
-}
-
-fn digest_after(entry: &Entry, present: Option<[u8; 32]>) -> Option<[u8; 32]>
-    ensures { result ≡ later_or (digest_set entry.now) present }
-{
-    match entry {
-        Entry::Password { digest } => Some(*digest),
-        Entry::MakeMailbox { .. } => present,
-    }
-}
-
-fn rows(alloc: Global, entries: &[Entry]) -> Result<Vec<MailboxRow>, Memory>
-    ensures { IfOk result (λ rows. rows.items ≡ rows_of (history_of entries.now)) }
-{
-    let mut rows = Vec::new(alloc);
-    for entry in entries {
-        push_row(&mut rows, entry)?;
-    }
-    Ok(rows)
-}
-
-fn push_row(rows: &mut Vec<MailboxRow>, entry: &Entry) -> Result<(), Memory>
-    ensures { OnOk result (rows.new.items ≡ rows.old.items ++ map row_of (added_by entry.now)) }
-{
-    if let Entry::MakeMailbox { mailbox } = entry {
-        rows.push(MailboxRow {
-            name: *mailbox,
-            live: 0,
-            highest: 0,
-        })?;
-    }
-    Ok(())
 }

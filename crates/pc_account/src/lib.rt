@@ -2,14 +2,29 @@
 #![tactic(auto)]
 
 mod account;
+mod allowing;
 mod answer;
-mod entry;
+mod answering;
+mod counts;
+mod forgetting;
+mod holdings;
+mod limits;
+mod mailboxes;
+mod parcels;
+mod planning;
 mod secret;
+mod tables;
+mod taking;
+mod wish;
 
 pub use account::Account;
-pub use answer::{Answer, MailboxRow, MailboxRows, Question};
-pub use entry::{AskFault, Entry, Wish};
+pub use answer::{
+    Answer, ClientRow, ClientRows, MailboxRow, MailboxRows, Question, SubscriptionRow,
+    SubscriptionRows,
+};
+pub use pc_history::Entry;
 pub use secret::digest;
+pub use wish::{AskFault, Wish};
 
 #[cfg(test)]
 mod tests;

@@ -43,7 +43,7 @@ pub lists-found : (number : ℕ) (clients : List (List ℕ × ℕ)) (box : Mailb
 lists-found number clients box distinct good = Every-from_lookups (λ name list. list_of box name ≡ list) box.lists (subst AreDistinct (sym (keys-lists number box.highest clients box.lists good.lists)) distinct) (λ name. found-self (lookup (same name) box.lists) [])
 
 -- the changes of one mailbox, by client or list by list
-lists-counted : (number : ℕ) (clients : List (List ℕ × ℕ)) (box : MailboxRecord) → AreDistinct (keys_of clients) → IsMailbox number clients box → total (λ client. length (list_of box client.0)) clients ≡ total (λ list. length list.1) box.lists
+pub lists-counted : (number : ℕ) (clients : List (List ℕ × ℕ)) (box : MailboxRecord) → AreDistinct (keys_of clients) → IsMailbox number clients box → total (λ client. length (list_of box client.0)) clients ≡ total (λ list. length list.1) box.lists
 lists-counted number clients box distinct good =
     total-map (λ name. length (list_of box name)) clients
     ∙ ap (total (λ name. length (list_of box name))) (sym (keys-lists number box.highest clients box.lists good.lists))

@@ -291,7 +291,8 @@ impl Mailbox {
 
     /// How many changes more the list of a client would have if all messages were touched for it.
     pub fn unlisted_of(&self, client: Name) -> u64
-        ensures { result ≡ unlisted_for client self.now }
+        ensures unlisted { result ≡ unlisted_for client self.now }
+        ensures bound { result ≤ MOST_MESSAGES }
     {
         match update_lists::list_of(&self.lists, &client) {
             Some(list) => growth::count_unlisted(list, &self.messages, false) as u64,

@@ -4,15 +4,14 @@ use Rattle.std.proofs.Math.Seq.{take-append_seam}
 use Rattle.std.proofs.lemmas.Bool.{false≢true}
 use Rattle.std.specs.Option.{option_to_list}
 use Rattle.pc_base.specs.declared.failure.Memory.{Memory}
-use Rattle.pc_account.specs.History.{history_of, is_same}
-use Rattle.pc_account.specs.declared.entry.Entry.{Entry}
-use Rattle.pc_world.specs.Account.{Account}
+use Rattle.pc_history.specs.Table.{same}
+use Rattle.pc_history.specs.declared.entry.Entry.{Entry}
+use Rattle.pc_world.specs.Account.{Account, history_of}
 use Rattle.pc_world.specs.Repository.{reply_to}
 use Rattle.pc_world.specs.Steps.{Prints, Step, entries_of, printed_reply}
 use Rattle.pc_world.specs.View.{accounts_of}
 use Rattle.pc_world.specs.declared.event.Asked.{Asked}
 use Rattle.pc_world.specs.declared.event.Event.TheVariants.{Ask}
-use Rattle.pc_world.specs.declared.world.User.{User}
 
 -- what is in front of more is in front
 pub front_stays : (text more text' : List ℕ) → take (length (text ++ more)) text' ≡ text ++ more → take (length text) text' ≡ text
@@ -25,7 +24,7 @@ step_asked : (user : List ℕ) (entries entries' : List Entry) (name : List ℕ)
     → IsTrue (is_some (entries_of (record { user = user; entries = entries } ∷ []) name))
     → entries' ≡ entries ++ option_to_list (reply_to (history_of entries) asked).entry
     → Step (record { user = user; entries = entries } ∷ []) (Ask name asked) (printed_reply name (reply_to (history_of entries) asked)) (record { user = user; entries = entries' } ∷ [])
-step_asked user entries entries' name asked found is = by_test (is_same user name) found
+step_asked user entries entries' name asked found is = by_test (same user name) found
   where
     kept : List Entry
     kept = option_to_list (reply_to (history_of entries) asked).entry
@@ -40,14 +39,17 @@ step_asked user entries entries' name asked found is = by_test (is_same user nam
     by_test true found = (refl, ap (λ (shown : List Entry). account shown ∷ []) is)
     by_test false found = absurd (false≢true found)
 
-pub Prints-asked : {T : Type 0} (result : Result Unit Memory) (old new : List Account) (user : User) (entries : List Entry) (name : List ℕ) (asked : Asked) (Adds : List (List ℕ) → T → Type 0) (now : T)
+pub Prints-asked : {T : Type 0} (result : Result Unit Memory) (old new : List Account) (user user' : Account) (name : List ℕ) (asked : Asked) (Adds : List (List ℕ) → T → Type 0) (now : T)
     → old ≡ accounts_of (Some user)
-    → new ≡ record { user = user.name; entries = entries } ∷ []
+    → new ≡ accounts_of (Some user')
     → IsTrue (is_some (entries_of old name))
-    → OnOk result (Adds (printed_reply name (reply_to (history_of user.account) asked)) now)
-    → OnOk result (entries ≡ user.account ++ option_to_list (reply_to (history_of user.account) asked).entry)
+    → user'.user ≡ user.user
+    → OnOk result (Adds (printed_reply name (reply_to (history_of user.entries) asked)) now)
+    → OnOk result (user'.entries ≡ user.entries ++ option_to_list (reply_to (history_of user.entries) asked).entry)
     → OnOk result (Prints old (Ask name asked) new Adds now)
-Prints-asked (Err memory) old new user entries name asked Adds now is become found adds kept = adds
-Prints-asked (Ok done) old new user entries name asked Adds now is become found adds kept =
-    let step = step_asked user.name user.account entries name asked (subst (λ (world : List Account). IsTrue (is_some (entries_of world name))) is found) kept in
-    (printed_reply name (reply_to (history_of user.account) asked), (rw (is, become) step, adds))
+Prints-asked (Err memory) old new user user' name asked Adds now is become found named adds kept = adds
+Prints-asked (Ok done) old new user user' name asked Adds now is become found named adds kept =
+    let P : List Account → Type 0 = λ world. IsTrue (is_some (entries_of world name)) in
+    let step = step_asked user.user user.entries user'.entries name asked (subst P is found) kept in
+    let shown : new ≡ record { user = user.user; entries = user'.entries } ∷ [] = become ∙ ap (λ (n : List ℕ). record { user = n; entries = user'.entries } ∷ []) named in
+    (printed_reply name (reply_to (history_of user.entries) asked), (rw (is, shown) step, adds))

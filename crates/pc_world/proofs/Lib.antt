@@ -1,6 +1,7 @@
 pub mod Adding
 pub mod Asking
 pub mod Chains
+pub mod Entries
 pub mod OfForm
 pub mod OneEvent
 pub mod OneOutcome

@@ -1,4 +1,5 @@
 pub mod Account
+pub mod Changes
 pub mod Events
 pub mod Repository
 pub mod Reading

@@ -2,27 +2,28 @@
 use Rattle.std.specs.Prelude.{◌≡◌, ℕ, List, [], ◌∷◌, ◌++◌, map, codes, Bool, true, false, Option, Some, None, is_some, if◌then◌else◌, MatchOption}
 use Rattle.std.specs.Option.{option_to_list}
 use Rattle.pc_account.specs.Digest.{digest_of}
-use Rattle.pc_account.specs.History.{history_of, is_same}
-use Rattle.pc_account.specs.declared.entry.Entry.{Entry}
-use Rattle.pc_account.specs.declared.entry.Entry.TheVariants.{MakeMailbox, Password}
+use Rattle.pc_history.specs.Allowed.{inbox}
+use Rattle.pc_history.specs.Table.{same}
+use Rattle.pc_history.specs.declared.entry.Entry.{Entry}
+use Rattle.pc_history.specs.declared.entry.Entry.TheVariants.{MakeMailbox, Password}
 use Rattle.pc_world.specs.declared.event.Event.{Event}
 use Rattle.pc_world.specs.declared.event.Event.TheVariants.{Silent, User, Ask}
-use Rattle.pc_world.specs.Account.{Account}
+use Rattle.pc_world.specs.Account.{Account, history_of}
 use Rattle.pc_world.specs.Repository.{Reply, reply_to}
 
 -- the entries of a new user's account: the password, and the inbox
 abbrev pub enrolled : List ℕ → List ℕ → List Entry
-enrolled name password = Password (digest_of name password) ∷ MakeMailbox (codes "inbox") ∷ []
+enrolled name password = Password (digest_of name password) ∷ MakeMailbox inbox ∷ []
 
 -- the entries of the user of this name
 abbrev pub entries_of : List Account → List ℕ → Option (List Entry)
 entries_of [] name = None
-entries_of (account ∷ accounts) name = if is_same account.user name then Some account.entries else entries_of accounts name
+entries_of (account ∷ accounts) name = if same account.user name then Some account.entries else entries_of accounts name
 
 -- the account, with one more entry where it is this user's
 abbrev pub with_entry : List ℕ → List Entry → Account → Account
 with_entry user kept account =
-    if is_same account.user user then record account { entries = account.entries ++ kept } else account
+    if same account.user user then record account { entries = account.entries ++ kept } else account
 
 -- what is printed: the event's words and the reply's head, and the lines of its list with two spaces in front
 abbrev pub indented : List ℕ → List ℕ

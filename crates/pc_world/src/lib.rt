@@ -8,6 +8,7 @@ mod replaying;
 mod repository;
 mod transcript;
 mod turn;
+mod user;
 mod world;
 
 pub use event::{Asked, Event, EventFault};

@@ -7,17 +7,10 @@ ghost use Rattle.pc_world.specs.Steps.{Prints, Step, enrolled, entries_of, fits 
 use crate::event::{Asked, Event};
 use crate::repository::answer;
 use crate::transcript::Transcript;
-use pc_account::{Account, Entry, digest};
+use crate::user::User;
 use pc_base::{Memory, Name, Password, Printed};
 use std::alloc::Global;
 use std::marker::Model;
-
-/// A user and the account.
-#[derive(Drop)]
-pub(crate) struct User {
-    name: Name,
-    account: Account,
-}
 
 /// The users of a script so far. Contracts see it as a list of users, each with the entries of the account.
 #[derive(Drop)]
@@ -89,7 +82,7 @@ impl World {
     {
         match &self.user {
             None => false,
-            Some(user) => user.name == *name,
+            Some(user) => *user.name() == *name,
         }
     }
 
@@ -104,13 +97,10 @@ impl World {
         ensures ok { OnOk result (T.adds transcript.old (printed_user name.now) transcript.new) }
         ensures err { OnErr result (T.keeps transcript.old transcript.new) }
     {
-        let Ok(account) = enrolled_account(alloc, name, password) else {
+        let Ok(user) = User::enrol(alloc, name, password) else {
             return Err(Memory);
         };
-        self.user = Some(User {
-            name: *name,
-            account,
-        });
+        self.user = Some(user);
         transcript.print_user(alloc, name)
     }
 
@@ -125,24 +115,9 @@ impl World {
         ensures ok { OnOk result (Prints self.old (Ask name.now asked.now) self.new (T.adds transcript.old) transcript.new) }
         ensures err { OnErr result (T.keeps transcript.old transcript.new) }
     {
-        let Some(mut user) = self.user.take() else {
+        let Some(user) = &mut self.user else {
             unreachable!();
         };
-        let answered = answer(alloc, &mut user.account, name, asked, transcript);
-        self.user = Some(user);
-        answered
+        answer(alloc, user, name, asked, transcript)
     }
-}
-
-/// The account of a new user.
-fn enrolled_account(alloc: Global, name: &Name, password: &Password) -> Result<Account, Memory>
-    ensures { IfOk result (λ account. account ≡ enrolled name.now password.now) }
-{
-    let mut account = Account::empty(alloc);
-    account.apply(&Entry::Password {
-        digest: digest(name, password),
-    })?;
-    let mailbox = Name::read(b"inbox").unwrap();
-    account.apply(&Entry::MakeMailbox { mailbox })?;
-    Ok(account)
 }

@@ -1,0 +1,56 @@
+-- What the longest front of the letters tells of the wish to take mails.
+use Rattle.std.proofs.Common.{◌≡◌, ℕ, zero, suc, ◌-◌, ◌<◌, ◌≤◌, ◌==◌, false, List, map, take, length, get_or, None, Some, Ok, refl, sym, ◌∙◌, ap, arith, length-take-le}
+use Rattle.std.proofs.lemmas.List.{length-map, take-map}
+use Rattle.std.proofs.lemmas.Bool.{ne_eqb}
+use Rattle.pc_base.specs.declared.room.Room.{Room}
+use Rattle.pc_message.specs.declared.lists.Mail.{Mail}
+use Rattle.pc_history.specs.declared.entry.Entry.TheVariants as entry
+use Rattle.pc_history.specs.declared.limits.TheConstants.{MOST_LETTERS}
+use Rattle.pc_history.specs.Record.{AccountRecord}
+use Rattle.pc_history.specs.Known.{Known, said_by}
+use Rattle.pc_history.specs.Legal.{IsCanonical}
+use Rattle.pc_account.specs.declared.wish.Wish.TheVariants as wish
+use Rattle.pc_account.specs.Plan.{last_number, pulled_mails, planned, NumbersRise}
+use Rattle.pc_account.specs.Taking.{letter_of, front_count}
+use Rattle.pc_account.specs.Answers.{Tells}
+use Rattle.pc_account.proofs.Waiting.{last-at, front-counted, front-within}
+use Rattle.pc_account.proofs.Settling.{settled-holds, settled-entry}
+
+last-before : (mails : List Mail) (count : ℕ) (d : Mail) → 0 < count → count ≤ length mails → last_number (take count mails) ≡ (get_or mails (count - 1) d).number
+last-before mails zero d some le = absurd (omega (arith, some))
+last-before mails (suc count) d some le = let e : suc count - 1 ≡ count = omega arith in rw e (last-at mails count d (omega (arith, le)))
+
+not-zero : (n : ℕ) → 0 < n → (n == 0) ≡ false
+not-zero n some = ne_eqb n 0 (λ e. omega (arith, some, e))
+
+module _ (r : AccountRecord) (number : ℕ) (room : Room) (canonical : IsCanonical r number) (mails : List Mail) (few : length mails ≤ MOST_LETTERS) (rise : NumbersRise (said_by r number).pulled mails) where
+  abbrev k : Known
+  k = said_by r number
+
+  module _ (letters slice : List (List ℕ × List (List ℕ))) (count : ℕ) (made : letters ≡ map (letter_of k) mails) (seen : slice ≡ letters) (counted : count ≡ front_count k room (length slice) slice) (bound : count ≤ length slice) where
+    all_seen : slice ≡ map (letter_of k) mails
+    all_seen = seen ∙ made
+
+    within : count ≤ length mails
+    within = let long = ap length all_seen ∙ length-map mails (letter_of k) in omega (arith, bound, long)
+
+    front : pulled_mails k room mails ≡ take count mails
+    front =
+        front-counted r number room canonical mails few rise (length mails) (omega arith)
+        ∙ ap (λ (n : ℕ). take n mails) (sym (
+        counted
+        ∙ (λ i. front_count k room (length (all_seen i)) (all_seen i))
+        ∙ ap (λ (n : ℕ). front_count k room n (map (letter_of k) mails)) (length-map mails (letter_of k))))
+
+    pub none-taken : count ≡ 0 → Tells (planned k (wish.Take mails room)) (Ok None)
+    none-taken none = settled-holds k (wish.Take mails room) refl (ap (λ (ms : List Mail). length ms == 0) (front ∙ ap (λ (n : ℕ). take n mails) none))
+
+    pub first-letters : take (length (take count mails)) letters ≡ map (letter_of k) (take count mails)
+    first-letters = (λ i. take (length-take-le count mails within i) (made i)) ∙ take-map (letter_of k) count mails
+
+    pub some-taken : 0 < count → (d : Mail) (first : List (List ℕ × List (List ℕ))) → first ≡ map (letter_of k) (take count mails) → Tells (planned k (wish.Take mails room)) (Ok (Some (entry.Pull (get_or mails (count - 1) d).number first)))
+    some-taken some d first taken =
+        let any : (length (pulled_mails k room mails) == 0) ≡ false = ap (λ (ms : List Mail). length ms == 0) front ∙ ap (λ (n : ℕ). n == 0) (length-take-le count mails within) ∙ not-zero count some in
+        let upto : (get_or mails (count - 1) d).number ≡ last_number (pulled_mails k room mails) = sym (last-before mails count d some within) ∙ ap last_number (sym front) in
+        let letters_taken : first ≡ map (letter_of k) (pulled_mails k room mails) = taken ∙ ap (map (letter_of k)) (sym front) in
+        settled-entry k (wish.Take mails room) (entry.Pull (get_or mails (count - 1) d).number first) refl any (sym (front-within k room mails any)) (λ i. entry.Pull (upto i) (letters_taken i))

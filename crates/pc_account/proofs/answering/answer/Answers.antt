@@ -1,0 +1,8 @@
+use Rattle.std.proofs.Common.{sym, subst}
+use Rattle.pc_account.specs.State.{said}
+use Rattle.pc_account.specs.Answers.{answered, Tells}
+use Rattle.pc_account.specs.declared.answer.Question.{Question}
+use Rattle.pc_account.proofs.answering.answer.Goals as goal
+
+pub returns-in-Changed : goal.returns-in-Changed
+returns-in-Changed c = subst (λ (asked : Question). Tells (answered (said c.args.holdings.now) asked) c.changed.result) (sym c.in-Changed.is) c.changed.ensures

@@ -1,0 +1,11 @@
+use Rattle.std.proofs.Common.{◌+◌, ◌∙◌, sym, ap}
+use Rattle.pc_history.specs.Known.{said_by}
+use Rattle.pc_history.specs.Limits.{listed_count}
+use Rattle.pc_account.proofs.Changed.{changes-reset}
+use Rattle.pc_account.proofs.limits.growth_of_resets.Goals as goal
+
+pub returns : goal.returns
+returns c =
+    let r = c.args.holdings.now.held in
+    let number = c.args.holdings.now.next in
+    changes-reset r number c.requires.canonical.well_formed c.args.client.now c.requires.allowed ∙ ap (λ n. listed_count (said_by r number) + n) (sym c.sum_of_unlisted.ensures)

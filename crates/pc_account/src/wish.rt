@@ -1,0 +1,106 @@
+//! What is wished for, and why a wish or a question has no answer.
+
+ghost use Rattle.std.specs.Prelude.{◌≡◌};
+
+use pc_base::{Memory, Name, Refusal, Room};
+use pc_mailbox::Shown;
+use pc_message::Mails;
+
+/// A change that is asked for.
+#[derive(Drop)]
+pub enum Wish {
+    /// To make a mailbox.
+    MakeMailbox {
+        mailbox: Name,
+    },
+    /// To delete a mailbox with its messages.
+    DropMailbox {
+        mailbox: Name,
+    },
+    /// To set a flag of a message, which is at most 15.
+    Flag {
+        mailbox: Name,
+        uid: u32,
+        flag: u8,
+        on: bool,
+    },
+    /// To take away the messages whose flag 0 is on.
+    Expunge {
+        mailbox: Name,
+    },
+    /// To copy a message into a mailbox.
+    Copy {
+        mailbox: Name,
+        uid: u32,
+        target: Name,
+    },
+    /// To make a client.
+    MakeClient {
+        client: Name,
+    },
+    /// To take a client away.
+    DropClient {
+        client: Name,
+    },
+    /// To put all that lives on the lists of a client.
+    ResetClient {
+        client: Name,
+    },
+    /// To put all that lives in a mailbox on the list of a client.
+    ResetMailbox {
+        client: Name,
+        mailbox: Name,
+    },
+    /// To take the changes from one uid to another off a client's list, as far as they are still
+    /// those that it was shown.
+    Forget {
+        client: Name,
+        mailbox: Name,
+        low: u32,
+        high: u32,
+        shown: Shown,
+    },
+    /// To take as many of these mails as there is room for, from the first on: at most 64, whose
+    /// numbers rise and are past the last mail that was taken. The room is that of the journal.
+    Take {
+        mails: Mails,
+        room: Room,
+    },
+    /// To set the password with this digest.
+    Password {
+        digest: [u8; 32],
+    },
+    /// To subscribe to a board.
+    Subscribe {
+        board: Name,
+    },
+    /// To end a subscription.
+    Unsubscribe {
+        board: Name,
+    },
+    /// To note the last uid of a board that was read.
+    Mark {
+        board: Name,
+        uid: u32,
+    },
+}
+
+/// Why a wish or a question has no answer.
+#[derive(Clone, Copy)]
+pub enum AskFault {
+    /// The repository refuses it.
+    Refused(Refusal),
+    /// Want of memory.
+    Memory,
+}
+
+impl From<Memory> for AskFault {
+    ghost use Rattle.std.specs.Prelude.{◌≡◌};
+    ghost use Rattle.pc_account.specs.declared.wish.AskFault.TheVariants as fault;
+
+    ghost from_gives = { λ _ given. given ≡ fault.Memory };
+
+    fn from(_memory: Memory) -> AskFault {
+        AskFault::Memory
+    }
+}

@@ -1,0 +1,108 @@
+//! A user of a world.
+
+ghost use Rattle.std.specs.Prelude.{◌≡◌, ◌++◌, [], ◌∷◌, IsTrue, IfOk, OnOk};
+ghost use Rattle.pc_history.specs.History.{known};
+ghost use Rattle.pc_history.specs.Known.{Known};
+ghost use Rattle.pc_account.specs.Answers.{Tells, answered};
+ghost use Rattle.pc_account.specs.Plan.{IsWish, planned};
+ghost use Rattle.pc_account.specs.State.{StandsFor, may_follow, said, step};
+ghost use Rattle.pc_world.specs.Account.{history_of};
+ghost use Rattle.pc_world.specs.Changes.{Changes};
+ghost use Rattle.pc_world.specs.Steps.{enrolled};
+
+use pc_account::{Account, Answer, AskFault, Entry, Question, Wish, digest};
+use pc_base::{Memory, Name, Password};
+use std::alloc::Global;
+use std::marker::Model;
+
+/// A user with the account, and beside it the entries that the account was given. Contracts see
+/// the name and the entries.
+#[derive(Drop)]
+pub(crate) struct User {
+    name: Name,
+    account: Account,
+    entries: Vec<Entry>,
+}
+
+impl Model for User {
+    ghost use Rattle.pc_account.specs.State.{StandsFor};
+    ghost use Rattle.pc_world.specs.Account.{Account as Kept, history_of};
+
+    ghost Value = { Kept };
+
+    ghost view = { λ user. record { user = user.name; entries = user.entries.items } };
+
+    ghost invariant = { λ user. StandsFor user.account (history_of user.entries.items) };
+}
+
+impl User {
+    /// A new user, with a password and an inbox.
+    pub(crate) fn enrol(alloc: Global, name: &Name, password: &Password) -> Result<User, Memory>
+        ensures { IfOk result (λ user. user ≡ record { user = name.now; entries = enrolled name.now password.now }) }
+    {
+        let mut account = Account::empty(alloc)?;
+        let mut entries = Vec::new(alloc);
+        let digest = digest(name, password);
+        let password = Entry::Password { digest };
+        keep(alloc, &mut account, &mut entries, password)?;
+        let mailbox = Name::read(b"inbox").unwrap();
+        let inbox = Entry::MakeMailbox { mailbox };
+        keep(alloc, &mut account, &mut entries, inbox)?;
+        Ok(User {
+            name: *name,
+            account,
+            entries,
+        })
+    }
+
+    /// The user's name.
+    pub(crate) fn name(&self) -> &Name
+        ensures { result.now ≡ self.now.user }
+    {
+        &self.name
+    }
+
+    /// What the account answers to a question.
+    pub(crate) fn answer(&self, alloc: Global, question: &Question) -> Result<Answer, AskFault>
+        ensures { Tells (answered (known (history_of self.now.entries)) question.now) result }
+    {
+        self.account.answer(alloc, question)
+    }
+
+    /// Makes the change that is wished for, where there is one to make. After want of memory the
+    /// user isn't used again.
+    pub(crate) fn change(&mut self, alloc: Global, wish: &Wish) -> Result<(), AskFault>
+        requires { (k : Known) → IsWish k wish.now }
+        ensures user { self.new.user ≡ self.old.user }
+        ensures entries { Changes self.old.entries self.new.entries (planned (known (history_of self.old.entries)) wish.now) result }
+    {
+        let plan = self.account.plan(alloc, wish)?;
+        if let Some(entry) = plan {
+            keep(alloc, &mut self.account, &mut self.entries, entry)?;
+        }
+        Ok(())
+    }
+}
+
+/// Makes the step of an entry, and puts the entry behind the others. After `Err` neither is used
+/// again.
+fn keep(
+    alloc: Global,
+    account: &mut Account,
+    entries: &mut Vec<Entry>,
+    entry: Entry,
+) -> Result<(), Memory>
+    requires stands { StandsFor account.old (history_of entries.old.items) }
+    requires follows { IsTrue (may_follow (said account.old) entry) }
+    ensures stands { StandsFor account.new (history_of entries.new.items) }
+    ensures account { OnOk result (account.new ≡ step account.old entry) }
+    ensures entries { OnOk result (entries.new.items ≡ entries.old.items ++ entry ∷ []) }
+{
+    entries.reserve(1)?;
+    let Ok(()) = account.apply(alloc, &entry) else {
+        entries.clear();
+        return Err(Memory);
+    };
+    entries.push(entry).unwrap();
+    Ok(())
+}
