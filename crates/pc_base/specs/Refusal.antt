@@ -1,5 +1,5 @@
 -- The heads of refusals, and how an address that is unknown is shown.
-use Rattle.std.specs.Prelude.{ℕ, List, ◌++◌, codes, decimal}
+use Rattle.std.specs.Prelude.{ℕ, Bool, true, false, List, ◌++◌, codes, decimal}
 use Rattle.pc_base.specs.declared.refusal.LimitWord.{LimitWord}
 use Rattle.pc_base.specs.declared.refusal.LimitWord.TheVariants as limit
 use Rattle.pc_base.specs.declared.refusal.Refusal.{Refusal}
@@ -51,3 +51,10 @@ head_of refused.ClientExists = codes "423 Client exists"
 head_of refused.ClientHasSession = codes "428 Client has a session"
 head_of refused.VersionUnknown = codes "429 Version unknown"
 head_of refused.JournalFull = codes "430 Journal full"
+
+-- whether a refusal tells more than its kind
+unfoldable pub tells_more : Refusal → Bool
+tells_more (refused.Superseded _) = true
+tells_more (refused.UnknownRecipient _) = true
+tells_more (refused.LimitReached _) = true
+tells_more _ = false

@@ -80,7 +80,8 @@ pub trait Machine: Drop {
     /// Reads a record. `Malformed` names the first field at which no record goes on.
     fn load(alloc: Global, bytes: &[u8]) -> Result<Self, ReadFault>
         ensures found { IfOk result (λ state. is_canonical state × (saved state ≡ bytes.now)) }
-        ensures fault { FaultAt result (record_fault bytes.now) };
+        ensures fault { FaultAt result (record_fault bytes.now) }
+        ensures within { FaultAt result (λ place. place ≤ length bytes.now) };
 
     /// Gives a state that was just made or loaded the number of its next entry, and answers whether
     /// it suits; if not, nothing changes.
@@ -98,7 +99,8 @@ pub trait Machine: Drop {
     /// Reads an entry. `Malformed` names the first field at which no entry goes on.
     fn read_entry(alloc: Global, bytes: &[u8]) -> Result<Self::Entry, ReadFault>
         ensures found { IfOk result (λ entry. fits entry × (written entry ≡ bytes.now)) }
-        ensures fault { FaultAt result (entry_fault bytes.now) };
+        ensures fault { FaultAt result (entry_fault bytes.now) }
+        ensures within { FaultAt result (λ place. place ≤ length bytes.now) };
 
     ghost kinds: { (1 ≤ KIND) × (KIND ≤ 3) };
 

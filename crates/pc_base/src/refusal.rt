@@ -1,7 +1,7 @@
 //! Refusals of the repository: one variant for each reply head from 400 to 430.
 
-ghost use Rattle.std.specs.Prelude.{◌≡◌, ◌≤◌, ◌+◌, ◌++◌, length};
-ghost use Rattle.pc_base.specs.Refusal.{head_of, limit_word};
+ghost use Rattle.std.specs.Prelude.{◌≡◌, ◌≤◌, ◌+◌, ◌++◌, length, IfSome, IfNone, IsTrue};
+ghost use Rattle.pc_base.specs.Refusal.{head_of, limit_word, tells_more};
 
 use crate::recipient::Recipient;
 use crate::short_text::ShortText;
@@ -113,44 +113,67 @@ impl LimitWord {
 
 impl Refusal {
     /// The head of the reply that tells it: the number, a space and the text.
-    #[tactic(auto, unfolding(crate::specs::Refusal::head_of))]
     pub fn head(&self) -> ShortText<96>
         ensures { result ≡ head_of self.now }
     {
+        match self.fixed_head() {
+            Some(head) => ShortText::copy_of(head),
+            None => self.told_head(),
+        }
+    }
+
+    /// The head, where it is the same whatever the refusal tells beside its kind.
+    #[tactic(auto, unfolding(crate::specs::Refusal::head_of, crate::specs::Refusal::tells_more))]
+    pub fn fixed_head(&self) -> Option<&'static [u8]>
+        ensures head { IfSome result (λ head. (head.now ≡ head_of self.now) × (length head.now ≤ 96)) }
+        ensures none { IfNone result (IsTrue (tells_more self.now)) }
+    {
         match self {
-            Refusal::UnknownOperation => ShortText::copy_of(b"400 Unknown operation"),
-            Refusal::WrongArguments => ShortText::copy_of(b"401 Wrong arguments"),
-            Refusal::LineTooLong => ShortText::copy_of(b"402 Line too long"),
-            Refusal::NotLoggedIn => ShortText::copy_of(b"403 Not logged in"),
-            Refusal::AlreadyLoggedIn => ShortText::copy_of(b"404 Already logged in"),
-            Refusal::BadUserOrPassword => ShortText::copy_of(b"405 Bad user or password"),
-            Refusal::NoSuchClient => ShortText::copy_of(b"406 No such client"),
+            Refusal::UnknownOperation => Some(b"400 Unknown operation"),
+            Refusal::WrongArguments => Some(b"401 Wrong arguments"),
+            Refusal::LineTooLong => Some(b"402 Line too long"),
+            Refusal::NotLoggedIn => Some(b"403 Not logged in"),
+            Refusal::AlreadyLoggedIn => Some(b"404 Already logged in"),
+            Refusal::BadUserOrPassword => Some(b"405 Bad user or password"),
+            Refusal::NoSuchClient => Some(b"406 No such client"),
+            Refusal::NoMailboxSelected => Some(b"408 No mailbox selected"),
+            Refusal::NoSuchMailbox => Some(b"409 No such mailbox"),
+            Refusal::MailboxExists => Some(b"410 Mailbox exists"),
+            Refusal::BadName => Some(b"411 Bad name"),
+            Refusal::NoSuchMessage => Some(b"412 No such message"),
+            Refusal::NoSuchFlag => Some(b"413 No such flag"),
+            Refusal::NoSuchAddress => Some(b"414 No such address"),
+            Refusal::AddressTaken => Some(b"415 Address taken"),
+            Refusal::MessageTooLarge => Some(b"417 Message too large"),
+            Refusal::NoSuchBoard => Some(b"419 No such board"),
+            Refusal::NotSubscribed => Some(b"420 Not subscribed"),
+            Refusal::AlreadySubscribed => Some(b"421 Already subscribed"),
+            Refusal::ReadOnly => Some(b"422 Read only"),
+            Refusal::ClientExists => Some(b"423 Client exists"),
+            Refusal::ClientHasSession => Some(b"428 Client has a session"),
+            Refusal::VersionUnknown => Some(b"429 Version unknown"),
+            Refusal::JournalFull => Some(b"430 Journal full"),
+            _ => None,
+        }
+    }
+
+    /// The head of a refusal that tells more than its kind.
+    #[tactic(auto, unfolding(crate::specs::Refusal::head_of, crate::specs::Refusal::tells_more))]
+    fn told_head(&self) -> ShortText<96>
+        requires { IsTrue (tells_more self.now) }
+        ensures { result ≡ head_of self.now }
+    {
+        match self {
             Refusal::Superseded { number } => {
                 let mut digits = Buffer::new();
-                let number = digits.format(*number).as_bytes();
-                joined(b"407 Superseded by session ", number)
+                joined(
+                    b"407 Superseded by session ",
+                    digits.format(*number).as_bytes(),
+                )
             }
-            Refusal::NoMailboxSelected => ShortText::copy_of(b"408 No mailbox selected"),
-            Refusal::NoSuchMailbox => ShortText::copy_of(b"409 No such mailbox"),
-            Refusal::MailboxExists => ShortText::copy_of(b"410 Mailbox exists"),
-            Refusal::BadName => ShortText::copy_of(b"411 Bad name"),
-            Refusal::NoSuchMessage => ShortText::copy_of(b"412 No such message"),
-            Refusal::NoSuchFlag => ShortText::copy_of(b"413 No such flag"),
-            Refusal::NoSuchAddress => ShortText::copy_of(b"414 No such address"),
-            Refusal::AddressTaken => ShortText::copy_of(b"415 Address taken"),
-            Refusal::UnknownRecipient { shown } => {
-                joined(b"416 Unknown recipient ", shown.bytes())
-            }
-            Refusal::MessageTooLarge => ShortText::copy_of(b"417 Message too large"),
-            Refusal::LimitReached { limit } => { joined(b"418 Limit reached ", limit.word()) }
-            Refusal::NoSuchBoard => ShortText::copy_of(b"419 No such board"),
-            Refusal::NotSubscribed => ShortText::copy_of(b"420 Not subscribed"),
-            Refusal::AlreadySubscribed => ShortText::copy_of(b"421 Already subscribed"),
-            Refusal::ReadOnly => ShortText::copy_of(b"422 Read only"),
-            Refusal::ClientExists => ShortText::copy_of(b"423 Client exists"),
-            Refusal::ClientHasSession => ShortText::copy_of(b"428 Client has a session"),
-            Refusal::VersionUnknown => ShortText::copy_of(b"429 Version unknown"),
-            Refusal::JournalFull => ShortText::copy_of(b"430 Journal full"),
+            Refusal::UnknownRecipient { shown } => joined(b"416 Unknown recipient ", shown.bytes()),
+            Refusal::LimitReached { limit } => joined(b"418 Limit reached ", limit.word()),
+            _ => unreachable!(),
         }
     }
 }

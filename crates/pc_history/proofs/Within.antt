@@ -15,7 +15,7 @@ use Rattle.pc_history.specs.declared.limits.TheConstants.{MOST_CLIENTS, MOST_MAI
 use Rattle.pc_history.specs.Table.{same, is_among, other_names, others, numbers, total}
 use Rattle.pc_history.specs.Effect.{gives, clients_after, live_after, dropped_after}
 use Rattle.pc_history.specs.Known.{Known, touches, stamps, stays, is_client_after, changes_after, after_entry}
-use Rattle.pc_history.specs.History.{History, start, ◌▸◌, known, next, base_of}
+use Rattle.pc_history.specs.History.{History, start, ◌▸◌, known, next}
 use Rattle.pc_history.specs.Allowed.{is_allowed, messages}
 use Rattle.pc_history.specs.Limits.{is_passed, limits_of, limit_passed, IsWithin, limits_of_bases, listed_count}
 use Rattle.pc_history.specs.Step.{record_of}
@@ -137,17 +137,6 @@ module _ (k : Known) (knows : KnowsNames k) where
   gives-or-held (MakeMailbox name) passed = inl (λ mailbox. refl)
   gives-or-held _ passed = inl (λ mailbox. refl)
 
-  pub within-after : (e : Entry) → is_allowed k e ≡ true → limit_passed k e ≡ None → IsWithin k limits_of_bases → IsWithin (after_entry k e) limits_of_bases
-  unfolding IsQuiet
-  within-after e allowed passed h =
-      let clients = clients-within e passed h.0 in
-      let names = mailboxes-within e allowed passed h.1.0 in
-      let subscriptions = subscriptions-within e passed h.1.1.1.1.1.0 in
-      elim (gives-or-held e passed) [
-        | inl quiet ↦ (clients, (names, (uids-quiet e quiet h.1.1.0, (messages-quiet e quiet h.1.1.1.0, (bytes-quiet e quiet h.1.1.1.1.0, (subscriptions, tt))))))
-        | inr held ↦ (clients, (names, (held.0, (held.1, (held.2, (subscriptions, tt))))))
-      ]
-
   -- ---- changes
 
   no-touch : (highest uid : ℕ) (found : Option Kept) → ((nat_lt highest uid && nat_le uid (highest + 0)) || option_map_or (λ kept. false) found false) ≡ false
@@ -213,13 +202,23 @@ module _ (k : Known) (knows : KnowsNames k) where
   pub changes-within : (e : Entry) → limit_passed k e ≡ None → is_passed k limit.Changes ≡ false → is_passed (after_entry k e) limit.Changes ≡ false
   changes-within e passed h = elim (changes-or-held e passed) [ inl less ↦ not-more MOST_CHANGES (listed_count k) (listed_count (after_entry k e)) less h | inr held ↦ held ]
 
+  -- ---- all limits
+
+  pub within-after : (e : Entry) → is_allowed k e ≡ true → limit_passed k e ≡ None → IsWithin k limits_of_bases → IsWithin (after_entry k e) limits_of_bases
+  unfolding IsQuiet
+  within-after e allowed passed h =
+      let clients = clients-within e passed h.0 in
+      let names = mailboxes-within e allowed passed h.1.0 in
+      let changes = changes-within e passed h.1.1.1.1.1.0 in
+      let subscriptions = subscriptions-within e passed h.1.1.1.1.1.1.0 in
+      elim (gives-or-held e passed) [
+        | inl quiet ↦ (clients, (names, (uids-quiet e quiet h.1.1.0, (messages-quiet e quiet h.1.1.1.0, (bytes-quiet e quiet h.1.1.1.1.0, (changes, (subscriptions, tt)))))))
+        | inr held ↦ (clients, (names, (held.0, (held.1, (held.2, (changes, (subscriptions, tt)))))))
+      ]
+
 pub IsWithin-legal : (h : History) → IsLegal h → IsWithin (known h) limits_of_bases
 IsWithin-legal (start r number) legal = legal.within
 IsWithin-legal (h ▸ e) legal = within-after (known h) (KnowsNames-legal h legal.0) e legal.1 legal.2 (IsWithin-legal h legal.0)
-
-pub changes-legal : (h : History) → IsLegal h → is_passed (known (base_of h)) limit.Changes ≡ false → is_passed (known h) limit.Changes ≡ false
-changes-legal (start r number) legal base = base
-changes-legal (h ▸ e) legal base = changes-within (known h) (KnowsNames-legal h legal.0) e legal.2 (changes-legal h legal.0 base)
 
 -- the record of a legal history is canonical
 pub IsCanonical-legal : (h : History) → IsLegal h → IsCanonical (record_of h) (next h)

@@ -34,8 +34,3 @@ next h = (known h).next
 -- the birth of a client: the number of the entry that made it last
 abbrev pub birth : History → List ℕ → Option ℕ
 birth h client = lookup (same client) (known h).clients
-
--- the base alone
-abbrev pub base_of : History → History
-base_of (start r number) = start r number
-base_of (h ▸ e) = base_of h

@@ -2,7 +2,6 @@
 use Rattle.std.specs.Prelude.{◌≡◌, ℕ, suc, ◌+◌, ◌<◌, ◌==◌, Bool, true, false, ◌||◌, ◌↔◌, ◌⊎◌, ◌≤◌, ⊤, List, [], ◌∷◌, MatchOption, length, is_some, None, Some, if◌then◌else◌}
 use Rattle.std.specs.List.{AllByRecursion}
 use Rattle.pc_base.specs.declared.refusal.LimitWord.{LimitWord}
-use Rattle.pc_base.specs.declared.refusal.LimitWord.TheVariants.{Changes}
 use Rattle.pc_history.specs.declared.entry.Entry.{Entry}
 use Rattle.pc_history.specs.Record.{AccountRecord, mailbox_of}
 use Rattle.pc_message.specs.Message.{weight_of}
@@ -10,7 +9,7 @@ use Rattle.pc_history.specs.Table.{total}
 use Rattle.pc_history.specs.Flags.{flag_of, flags_with}
 use Rattle.pc_history.specs.Effect.{begins, forgets}
 use Rattle.pc_history.specs.Known.{said_by, after_entry, touches}
-use Rattle.pc_history.specs.History.{History, start, ◌▸◌, ◌▸▸◌, known, next, birth, base_of}
+use Rattle.pc_history.specs.History.{History, start, ◌▸◌, ◌▸▸◌, known, next, birth}
 use Rattle.pc_history.specs.Allowed.{is_allowed, is_client, messages}
 use Rattle.pc_history.specs.Answers.{descriptors, changed}
 use Rattle.pc_history.specs.Limits.{is_passed, limit_passed, weight, listed_count, IsWithin, limits_of_bases}
@@ -59,9 +58,9 @@ ChangesAreTheUpdateList = (h : History) → IsLegal h → (client mailbox : List
 abbrev pub StampsAreNumbersOfEntries : Type 0
 StampsAreNumbersOfEntries = (h : History) → IsLegal h → (client mailbox : List ℕ) → MatchOption (birth h client) ((known h).changes client mailbox ≡ []) (λ born. (0 < born) × (born < next h) × IsUpdateList (next h) ((known h).highest mailbox) born ((known h).changes client mailbox))
 
--- every limit but that of changes holds at each place, and that of changes where it does in the base
+-- every limit holds at each place
 abbrev pub LimitsHold : Type 0
-LimitsHold = (h : History) → IsLegal h → IsWithin (known h) limits_of_bases × (is_passed (known (base_of h)) Changes ≡ false → is_passed (known h) Changes ≡ false)
+LimitsHold = (h : History) → IsLegal h → IsWithin (known h) limits_of_bases
 
 -- an entry is refused for a limit only where the history with the entry passes it
 abbrev pub LimitIsPassed : Type 0

@@ -56,6 +56,6 @@ limit_passed k e = find (is_passed (after_entry k e)) (limits_of e)
 abbrev pub IsWithin : Known → List LimitWord → Type 0
 IsWithin k limits = AllByRecursion (λ limit. is_passed k limit ≡ false) limits
 
--- the limits that hold at every place of a legal history, whatever its base
+-- the limits that hold at every place of a legal history, in its base too
 abbrev pub limits_of_bases : List LimitWord
-limits_of_bases = limit.Clients ∷ limit.Mailboxes ∷ limit.Uids ∷ limit.Messages ∷ limit.Bytes ∷ limit.Subscriptions ∷ []
+limits_of_bases = limit.Clients ∷ limit.Mailboxes ∷ limit.Uids ∷ limit.Messages ∷ limit.Bytes ∷ limit.Changes ∷ limit.Subscriptions ∷ []

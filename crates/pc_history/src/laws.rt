@@ -27,7 +27,7 @@ pub fn stamps_are_numbers_of_entries()
     ensures { StampsAreNumbersOfEntries }
 {}
 
-/// No limit is passed at any place of a legal history. That of changes may be where its base passes it.
+/// No limit is passed at any place of a legal history.
 pub fn limits_hold()
     ensures { LimitsHold }
 {}

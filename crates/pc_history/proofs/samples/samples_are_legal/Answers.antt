@@ -6,7 +6,7 @@ use Rattle.pc_history.specs.Samples.{enrolled, five_pulled, touched_again, one_t
 use Rattle.pc_history.proofs.samples.samples_are_legal.Goals as goal
 
 new-legal : IsLegal new_account
-new-legal = record { well_formed = record { positive = lit≤ tt; births_rise = tt; births = tt; client_names = tt; mailbox_names = tt; live = tt; dropped = tt; boards = tt; pulled = lit≤ tt }; within = (refl, (refl, (refl, (refl, (refl, (refl, tt)))))) }
+new-legal = record { well_formed = record { positive = lit≤ tt; births_rise = tt; births = tt; client_names = tt; mailbox_names = tt; live = tt; dropped = tt; boards = tt; pulled = lit≤ tt }; within = (refl, (refl, (refl, (refl, (refl, (refl, (refl, tt))))))) }
 
 enrolled-legal : IsLegal enrolled
 enrolled-legal = ((new-legal, refl, refl), refl, refl)
