@@ -3,9 +3,9 @@
 ghost use Rattle.std.specs.Prelude.{◌≡◌, ◌⊎◌, ℕ, ◌+◌, ◌-◌, ◌^◌, ◌<◌, ◌≤◌, [], ◌∷◌, ◌++◌, length, drop, IfOk, OnOk, OnErr};
 ghost use Rattle.pc_base.specs.Stream.{Rose};
 ghost use Rattle.pc_disk.specs.Images.{area_of, with_area, InArea};
-ghost use Rattle.pc_disk.specs.Outcomes.{Only, LeavesOnly};
+ghost use Rattle.pc_disk.specs.Outcomes.{Only, LeavesOnly, SameDue};
 ghost use Rattle.pc_log.specs.Area.{head_bytes};
-ghost use Rattle.pc_log.specs.Making.{OldOrUnmade, UnmadeOrNew, clear_calls};
+ghost use Rattle.pc_log.specs.Making.{OldOrUnmade, UnmadeOrNew, clear_calls, FailsAtLast, MakingFails};
 
 use crate::fault::LogFault;
 use crate::head::MAGIC;
@@ -45,6 +45,10 @@ pub(crate) fn clear<D: Disk>(disk: &mut D, area: u8) -> Result<(), LogFault>
     ensures settled { D.tells → OnOk result (Only (D.seen disk.new) (D.may_leave disk.new)) }
     ensures any_moment { D.tells → Only (D.seen disk.old) (D.may_leave disk.old) → LeavesOnly D.moment D.left_since disk.old disk.new (InArea area OldOrUnmade (D.seen disk.old)) }
     ensures calls { D.tells → OnOk result (D.moment disk.new ≡ D.moment disk.old + clear_calls (area_of area (D.seen disk.old))) }
+    ensures later { D.moment disk.old ≤ D.moment disk.new }
+    ensures most_calls { D.tells → D.moment disk.new ≤ D.moment disk.old + clear_calls (area_of area (D.seen disk.old)) }
+    ensures due { D.tells_due → MakingFails result (D.moment disk.old) (D.moment disk.new) (D.due disk.old) (D.taken disk.old) }
+    ensures ahead { D.tells_due → SameDue (D.moment disk.new) (D.due disk.old) (D.due disk.new) }
     ensures only_device { OnErr result (result ≡ Err LogFault.Device) }
     ensures faults { D.faults disk.old ≤ D.faults disk.new }
     ensures cause { OnErr result (Rose (D.faults disk.old) (D.faults disk.new)) }
@@ -71,6 +75,10 @@ fn close_and_cut<D: Disk>(disk: &mut D, area: u8) -> Result<(), StepFault>
     ensures settled { D.tells → OnOk result (Only (D.seen disk.new) (D.may_leave disk.new)) }
     ensures any_moment { D.tells → Only (D.seen disk.old) (D.may_leave disk.old) → LeavesOnly D.moment D.left_since disk.old disk.new (InArea area OldOrUnmade (D.seen disk.old)) }
     ensures calls { OnOk result (D.moment disk.new ≡ D.moment disk.old + 4) }
+    ensures later { D.moment disk.old ≤ D.moment disk.new }
+    ensures most_calls { D.moment disk.new ≤ D.moment disk.old + 4 }
+    ensures due { D.tells_due → FailsAtLast result (D.moment disk.old) (D.moment disk.new) (D.due disk.old) }
+    ensures ahead { D.tells_due → SameDue (D.moment disk.new) (D.due disk.old) (D.due disk.new) }
     ensures faults { D.faults disk.old ≤ D.faults disk.new }
     ensures cause { OnErr result (Rose (D.faults disk.old) (D.faults disk.new)) }
     ensures spare_calls { D.spare_calls disk.old ≤ D.spare_calls disk.new + 4 }
@@ -92,6 +100,10 @@ pub(crate) fn fill<D: Disk>(disk: &mut D, area: u8, bytes: &[u8]) -> Result<(), 
     ensures settled { D.tells → OnOk result (Only (D.seen disk.new) (D.may_leave disk.new)) }
     ensures any_moment { D.tells → LeavesOnly D.moment D.left_since disk.old disk.new (InArea area (UnmadeOrNew bytes.now) (D.seen disk.old)) }
     ensures calls { OnOk result (D.moment disk.new ≡ D.moment disk.old + 4) }
+    ensures later { D.moment disk.old ≤ D.moment disk.new }
+    ensures most_calls { D.moment disk.new ≤ D.moment disk.old + 4 }
+    ensures due { D.tells_due → FailsAtLast result (D.moment disk.old) (D.moment disk.new) (D.due disk.old) }
+    ensures ahead { D.tells_due → SameDue (D.moment disk.new) (D.due disk.old) (D.due disk.new) }
     ensures only_device { OnErr result (result ≡ Err LogFault.Device) }
     ensures faults { D.faults disk.old ≤ D.faults disk.new }
     ensures cause { OnErr result (Rose (D.faults disk.old) (D.faults disk.new)) }

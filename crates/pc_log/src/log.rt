@@ -8,7 +8,7 @@ ghost use Rattle.pc_disk.specs.StepFaults.{LeadsOn};
 ghost use Rattle.pc_disk.specs.Steps.{step_calls};
 ghost use Rattle.pc_log.specs.Area.{Head, fresh, IsHead, IsTrail, Spelled};
 ghost use Rattle.pc_log.specs.Logs.{IsPrepared, Stands, Without, WithOrWithout, append_calls, FailsAtFirstDue, IsEarly};
-ghost use Rattle.pc_log.specs.Making.{OldUnmadeOrNew, clear_calls};
+ghost use Rattle.pc_log.specs.Making.{OldUnmadeOrNew, clear_calls, MakingFails};
 ghost use Rattle.pc_log.specs.Opening.{OnDevice, OnMemory, IfMalformed, IsAreaOf, FindsAll, Finds, FindsFault, IfFound};
 ghost use Rattle.pc_log.specs.Untouched.{Untouched};
 
@@ -65,7 +65,14 @@ impl Log {
         // whole.
         ensures any_moment { D.tells → Only (D.seen disk.old) (D.may_leave disk.old) → LeavesOnly D.moment D.left_since disk.old disk.new (InArea area (OldUnmadeOrNew (record { kind = kind; generation = generation; first = first; base = base.now })) (D.seen disk.old)) }
 
+        // It makes the device calls that take away what stands, and four more; or those up to the one that
+        // failed.
         ensures calls { D.tells → OnOk result (D.moment disk.new ≡ D.moment disk.old + clear_calls (area_of area (D.seen disk.old)) + 4) }
+        ensures later { D.moment disk.old ≤ D.moment disk.new }
+        ensures most_calls { D.tells → D.moment disk.new ≤ D.moment disk.old + clear_calls (area_of area (D.seen disk.old)) + 4 }
+        ensures due { D.tells_due → MakingFails result (D.moment disk.old) (D.moment disk.new) (D.due disk.old) (D.taken disk.old) }
+        ensures ahead { D.tells_due → SameDue (D.moment disk.new) (D.due disk.old) (D.due disk.new) }
+
         ensures well_formed { IfMalformed result (λ place. ⊥) }
         ensures memory { OnMemory result (Untouched D.tells D.tells_due D.seen D.may_leave D.left_since D.moment D.due D.faults D.spare_calls D.spare_bytes disk.old disk.new) }
         ensures faults { D.faults disk.old ≤ D.faults disk.new }
