@@ -9,6 +9,8 @@ pub mod Letters
 pub mod Names
 pub mod OfParcels
 pub mod Passed
+pub mod Recorded
+pub mod Renumbered
 pub mod Rooms
 pub mod Settling
 pub mod Spread
@@ -22,3 +24,4 @@ pub mod Told
 pub mod Touched
 pub mod Unset
 pub mod Waiting
+pub mod Written

@@ -19,7 +19,7 @@ use Rattle.pc_history.proofs.Within.{found-passes}
 use Rattle.pc_history.proofs.FormedAfter.{Every-from_lookups}
 use Rattle.pc_account.specs.declared.answer.Answer.TheVariants as answer
 use Rattle.pc_account.specs.declared.wish.AskFault.TheVariants.{Refused}
-use Rattle.pc_account.specs.Answers.{row_of, row_in, told_at, Tells}
+use Rattle.pc_account.specs.Answers.{row_of, row_in, told_at, Tells, IsPlain}
 use Rattle.pc_account.proofs.Found.{live-found, live-messages}
 use Rattle.pc_account.proofs.Changed.{distinct-front}
 
@@ -40,6 +40,11 @@ letter-gone (Some kept) h = absurd (some-none kept.message (sym h))
 pub letter-there : (found : Option Kept) (message : List (List ℕ)) → Some message ≡ option_map (λ (kept : Kept). kept.message) found → Tells (option_map_or (λ (kept : Kept). Ok (answer.Letter kept.message)) found (Err NoSuchMessage)) (Ok (answer.Letter message))
 letter-there None message h = absurd (some-none message h)
 letter-there (Some kept) message h = ap answer.Letter (some-same message kept.message h)
+
+-- a message that is there isn't told plainly
+pub letter-taken : (found : Option Kept) (message : List (List ℕ)) → Some message ≡ option_map (λ (kept : Kept). kept.message) found → IsPlain (option_map_or (λ (kept : Kept). Ok (answer.Letter kept.message)) found (Err NoSuchMessage)) → ⊥
+letter-taken None message h plain = absurd (some-none message h)
+letter-taken (Some kept) message h plain = plain
 
 -- ---- what is told of a uid
 

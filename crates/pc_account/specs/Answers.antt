@@ -75,3 +75,9 @@ abbrev pub IsNoMemory : {X : Type 0} → Result X AskFault → Type 0
 IsNoMemory (Ok told) = ⊤
 IsNoMemory (Err Memory) = ⊥
 IsNoMemory (Err (Refused refusal)) = ⊤
+
+-- an outcome that is told without memory: a plain yes, or a refusal
+abbrev pub IsPlain : Result Answer Refusal → Type 0
+IsPlain (Ok answer.Yes) = ⊤
+IsPlain (Ok _) = ⊥
+IsPlain (Err refusal) = ⊤

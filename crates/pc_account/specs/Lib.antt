@@ -6,3 +6,7 @@ pub mod Mailboxes
 pub mod Plan
 pub mod State
 pub mod Taking
+pub mod Saving
+pub mod Numbered
+pub mod Legal
+pub mod Laws

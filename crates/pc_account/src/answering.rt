@@ -4,7 +4,7 @@ ghost use Rattle.std.specs.Prelude.{◌≡◌, map, IfOk};
 ghost use Rattle.pc_history.specs.History.{History, known};
 ghost use Rattle.pc_history.specs.Legal.{IsCanonical};
 ghost use Rattle.pc_account.specs.State.{said, StandsFor};
-ghost use Rattle.pc_account.specs.Answers.{answered, client_row, row_in, subscription_row, told_at, told_of, Tells};
+ghost use Rattle.pc_account.specs.Answers.{answered, client_row, row_in, subscription_row, told_at, told_of, Tells, IsPlain, IsNoMemory};
 ghost use Rattle.pc_account.specs.declared.answer.Question.TheVariants as question;
 
 use crate::account::Account;
@@ -22,9 +22,10 @@ use std::alloc::Global;
 
 impl Account {
     /// The answer to a question. Refused is what isn't there: first the client (406), then the
-    /// mailbox (409), then the message (412).
+    /// mailbox (409), then the message (412). Memory is wanted only where there is something to list or to lend.
     pub fn answer(&self, alloc: Global, asked: &Question) -> Result<Answer, AskFault>
         ensures exact { Tells (answered (said self.now) asked.now) result }
+        ensures memory { IsPlain (answered (said self.now) asked.now) → IsNoMemory result }
         ensures history { (h : History) → StandsFor self.now h → Tells (answered (known h) asked.now) result }
     {
         answer(alloc, &self.holdings, asked)
@@ -33,7 +34,8 @@ impl Account {
 
 fn answer(alloc: Global, holdings: &Holdings, asked: &Question) -> Result<Answer, AskFault>
     requires { IsCanonical holdings.now.held holdings.now.next }
-    ensures { Tells (answered (said holdings.now) asked.now) result }
+    ensures told { Tells (answered (said holdings.now) asked.now) result }
+    ensures memory { IsPlain (answered (said holdings.now) asked.now) → IsNoMemory result }
 {
     match asked {
         Question::Clients => {
@@ -60,14 +62,16 @@ fn answer(alloc: Global, holdings: &Holdings, asked: &Question) -> Result<Answer
 
 fn mailboxes(alloc: Global, holdings: &Holdings) -> Result<Answer, AskFault>
     requires { IsCanonical holdings.now.held holdings.now.next }
-    ensures { Tells (answered (said holdings.now) question.Mailboxes) result }
+    ensures told { Tells (answered (said holdings.now) question.Mailboxes) result }
+    ensures memory { IsPlain (answered (said holdings.now) question.Mailboxes) → IsNoMemory result }
 {
     let rows = mailbox_rows(alloc, holdings)?;
     Ok(Answer::Mailboxes(rows))
 }
 
 fn alive(holdings: &Holdings, mailbox: &Name) -> Result<Answer, AskFault>
-    ensures { Tells (answered (said holdings.now) (question.Alive mailbox.now)) result }
+    ensures told { Tells (answered (said holdings.now) (question.Alive mailbox.now)) result }
+    ensures memory { IsPlain (answered (said holdings.now) (question.Alive mailbox.now)) → IsNoMemory result }
 {
     if is_mailbox(holdings, mailbox) {
         return Ok(Answer::Yes);
@@ -83,7 +87,8 @@ fn descriptors(
     high: u32,
 ) -> Result<Answer, AskFault>
     requires { IsCanonical holdings.now.held holdings.now.next }
-    ensures { Tells (answered (said holdings.now) (question.Descriptors mailbox.now low high)) result }
+    ensures told { Tells (answered (said holdings.now) (question.Descriptors mailbox.now low high)) result }
+    ensures memory { IsPlain (answered (said holdings.now) (question.Descriptors mailbox.now low high)) → IsNoMemory result }
 {
     let Some(holder) = holdings.mailbox(mailbox) else {
         return Err(AskFault::Refused(Refusal::NoSuchMailbox));
@@ -96,7 +101,8 @@ fn descriptors(
 
 fn letter(alloc: Global, holdings: &Holdings, mailbox: &Name, uid: u32) -> Result<Answer, AskFault>
     requires { IsCanonical holdings.now.held holdings.now.next }
-    ensures { Tells (answered (said holdings.now) (question.Letter mailbox.now uid)) result }
+    ensures told { Tells (answered (said holdings.now) (question.Letter mailbox.now uid)) result }
+    ensures memory { IsPlain (answered (said holdings.now) (question.Letter mailbox.now uid)) → IsNoMemory result }
 {
     let Some(holder) = holdings.mailbox(mailbox) else {
         return Err(AskFault::Refused(Refusal::NoSuchMailbox));
@@ -118,7 +124,8 @@ fn changed(
     count: u32,
 ) -> Result<Answer, AskFault>
     requires { IsCanonical holdings.now.held holdings.now.next }
-    ensures { Tells (answered (said holdings.now) (question.Changed client.now mailbox.now count)) result }
+    ensures told { Tells (answered (said holdings.now) (question.Changed client.now mailbox.now count)) result }
+    ensures memory { IsPlain (answered (said holdings.now) (question.Changed client.now mailbox.now count)) → IsNoMemory result }
 {
     if !is_client(holdings, client) {
         return Err(AskFault::Refused(Refusal::NoSuchClient));

@@ -75,6 +75,13 @@ impl Holdings {
         self.next
     }
 
+    /// Gives the next entry this number.
+    pub fn set_next(&mut self, next: u64)
+        ensures { self.new ≡ record self.old { next = next } }
+    {
+        self.next = next;
+    }
+
     /// The number of the last mail pulled.
     pub fn pulled(&self) -> u64
         ensures { result ≡ self.now.held.pulled }

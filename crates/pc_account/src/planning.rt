@@ -33,6 +33,14 @@ impl Account {
         may_follow(&self.holdings, entry)
     }
 
+    /// Whether the mailbox lives.
+    pub fn has_mailbox(&self, mailbox: &Name) -> bool
+        ensures held { result ≡ is_mailbox (said self.now) mailbox.now }
+        ensures history { (h : History) → StandsFor self.now h → result ≡ is_mailbox (known h) mailbox.now }
+    {
+        is_mailbox(&self.holdings, mailbox)
+    }
+
     /// The entry that a wish comes to, or none where it holds already. Refused is what isn't there,
     /// or is there already, and then the limit that its entry would pass first. Memory is wanted
     /// only to forget and to take.

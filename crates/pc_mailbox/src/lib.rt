@@ -10,6 +10,7 @@ mod update_lists;
 
 pub use mailbox::Mailbox;
 pub use shown::Shown;
+pub use update_list::UpdateList;
 
 #[cfg(test)]
 mod tests;

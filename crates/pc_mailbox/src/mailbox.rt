@@ -223,6 +223,20 @@ impl Mailbox {
         self.messages.len() as u32
     }
 
+    /// The messages that live, by rising uid.
+    pub fn messages(&self) -> &[Kept]
+        ensures { result.now ≡ self.now.messages }
+    {
+        &self.messages
+    }
+
+    /// The clients' update lists, each with the client's name.
+    pub fn lists(&self) -> &[(Name, UpdateList)]
+        ensures { result.now ≡ self.now.lists }
+    {
+        &self.lists
+    }
+
     /// What the messages that live count for, each its size and 256 bytes.
     pub fn weight(&self) -> u32
         ensures value { result ≡ weight_of_all self.now.messages }

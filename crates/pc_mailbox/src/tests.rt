@@ -1,4 +1,8 @@
-use super::*;
+//! Tests on rows that were worked out by hand.
+
+mod full;
+
+use crate::Mailbox;
 use pc_base::{Line, Lines, Memory, Name, Uids};
 use pc_history::{Listed, MOST_MESSAGES, MOST_UIDS};
 use pc_message::{Change, Message};
@@ -127,112 +131,5 @@ fn uids_go_on_after_the_mailbox_is_emptied(rt: HostRuntime) -> Result<(), Fail> 
     assert_eq!(rt; work.is_listed(ws2, 3), Some(6));
     let first: Vec<Listed> = work.changed(alloc, ws2, 1)?.as_slice().to_vec(alloc)?;
     assert_eq!(rt; first.len(), 1);
-    Ok(())
-}
-
-/// Sixteen clients.
-fn clients(alloc: Global) -> Result<Vec<Name>, Fail> {
-    let mut names = Vec::new(alloc);
-    for place in 0..16u8 {
-        let name = Name::read(&[b'w', b's', b'a' + place]).ok_or("client")?;
-        names.push(name)?;
-    }
-    Ok(names)
-}
-
-/// A mailbox that has all the messages that it can have, for sixteen clients.
-fn full(alloc: Global) -> Result<Mailbox, Fail> {
-    let mut inbox = Mailbox::empty(alloc)?;
-    for client in &clients(alloc)? {
-        inbox.add_client(alloc, 3, *client)?;
-    }
-    let message = letter(alloc)?;
-    for _ in 0..MOST_MESSAGES {
-        add(alloc, &mut inbox, 20, &message)?;
-    }
-    Ok(inbox)
-}
-
-/// The uids of the descriptors from one uid to another.
-fn told(alloc: Global, mailbox: &Mailbox, low: u32, high: u32) -> Result<Vec<u32>, Fail> {
-    let mut uids = Vec::new(alloc);
-    for change in mailbox.descriptors(alloc, low, high)?.as_slice() {
-        if let Change::Present(descriptor) = change {
-            uids.push(descriptor.uid)?;
-        }
-    }
-    Ok(uids)
-}
-
-#[test]
-fn flags_are_set_in_a_full_mailbox(rt: HostRuntime) -> Result<(), Fail> {
-    let alloc = rt.alloc();
-    let mut inbox = full(alloc)?;
-    for (at, uid) in [(21, 1), (22, 2048), (23, 4096)] {
-        set_flag(&mut inbox, at, uid, true)?;
-    }
-    for uid in [1, 2048, 4096] {
-        assert_eq!(rt; inbox.live(uid), Some(2), "at {uid}");
-        assert_eq!(rt; inbox.takers(uid), 16, "at {uid}");
-    }
-    for uid in [2, 3, 2047, 2049, 4095] {
-        assert_eq!(rt; inbox.live(uid), Some(0), "at {uid}");
-    }
-    assert_eq!(rt; inbox.live(0), None);
-    assert_eq!(rt; inbox.live(4097), None);
-    assert!(rt; inbox.body(4097).is_none());
-    assert!(rt; !inbox.deletes());
-    for client in &clients(alloc)? {
-        assert_eq!(rt; inbox.listed_of(*client), 4096);
-        assert_eq!(rt; inbox.is_listed(*client, 2048), Some(22));
-        assert_eq!(rt; inbox.is_listed(*client, 2049), Some(20));
-        let shown = inbox.changed(alloc, *client, 4096)?;
-        let shown = shown.as_slice();
-        assert_eq!(rt; shown.first(), Some(&Listed { uid: 2, stamp: 20 }));
-        assert_eq!(rt;
-            shown.last(),
-            Some(&Listed {
-                uid: 4096,
-                stamp: 23
-            })
-        );
-    }
-    Ok(())
-}
-
-#[test]
-fn a_full_mailbox_is_emptied(rt: HostRuntime) -> Result<(), Fail> {
-    let alloc = rt.alloc();
-    let mut inbox = full(alloc)?;
-    assert_eq!(rt; inbox.count(), 4096);
-    assert_eq!(rt; inbox.weight(), 1_085_440);
-    set_flag(&mut inbox, 21, 2048, false)?;
-    assert!(rt; inbox.deletes());
-    assert_eq!(rt; inbox.expunge(alloc, 22)?, 1);
-    assert_eq!(rt; inbox.live(2048), None);
-    assert_eq!(rt; inbox.live(2047), Some(0));
-    assert_eq!(rt; inbox.live(2049), Some(0));
-    assert_eq!(rt;
-        told(alloc, &inbox, 2047, 2049)?.as_slice(),
-        [2047, 2049].as_slice()
-    );
-    assert_eq!(rt; told(alloc, &inbox, 2048, 2048)?.len(), 0);
-    assert_eq!(rt; told(alloc, &inbox, 0, 2)?.as_slice(), [1, 2].as_slice());
-    assert_eq!(rt;
-        told(alloc, &inbox, 4095, u32::MAX)?.as_slice(),
-        [4095, 4096].as_slice()
-    );
-    assert_eq!(rt; told(alloc, &inbox, 9, 3)?.len(), 0);
-    assert_eq!(rt; told(alloc, &inbox, 0, u32::MAX)?.len(), 4095);
-    inbox.drop_all(alloc, 23)?;
-    assert_eq!(rt; inbox.count(), 0);
-    assert_eq!(rt; inbox.weight(), 0);
-    assert_eq!(rt; inbox.highest(), 4096);
-    for client in &clients(alloc)? {
-        inbox.touch_all(alloc, 24, *client)?;
-        assert_eq!(rt; inbox.listed_of(*client), 4096);
-        assert_eq!(rt; inbox.is_listed(*client, 2048), Some(22));
-        assert_eq!(rt; inbox.is_listed(*client, 1), Some(23));
-    }
     Ok(())
 }

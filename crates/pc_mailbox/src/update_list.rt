@@ -7,7 +7,7 @@ ghost use Rattle.pc_history.specs.Step.{without, touched};
 ghost use Rattle.pc_mailbox.specs.UpdateList.{is_on, changes_of};
 
 use crate::shown::Shown;
-use lru::LruCache;
+use lru::{Iter, LruCache};
 use pc_base::Memory;
 use pc_history::Listed;
 use std::alloc::Global;
@@ -89,6 +89,13 @@ impl UpdateList {
         ensures { result ≡ length self.now }
     {
         self.stamps.len() as u32
+    }
+
+    /// The uids with their stamps, in order.
+    pub fn iter(&self) -> Iter<'_, u32, u64>
+        ensures { changes_of result ≡ self.now }
+    {
+        self.stamps.iter()
     }
 
     /// The first so many changes.

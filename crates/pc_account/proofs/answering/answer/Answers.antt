@@ -4,5 +4,5 @@ use Rattle.pc_account.specs.Answers.{answered, Tells}
 use Rattle.pc_account.specs.declared.answer.Question.{Question}
 use Rattle.pc_account.proofs.answering.answer.Goals as goal
 
-pub returns-in-Changed : goal.returns-in-Changed
-returns-in-Changed c = subst (λ (asked : Question). Tells (answered (said c.args.holdings.now) asked) c.changed.result) (sym c.in-Changed.is) c.changed.ensures
+pub returns-in-Changed-clause-told : goal.returns-in-Changed-clause-told
+returns-in-Changed-clause-told c = subst (λ (asked : Question). Tells (answered (said c.args.holdings.now) asked) c.changed.result) (sym c.in-Changed.is) c.changed.ensures.told

@@ -1,0 +1,23 @@
+-- What a store relies on of every account, its entries apart.
+use Rattle.std.specs.Prelude.{◌≡◌, ℕ, ◌<◌, ◌≤◌, true, List, length}
+use Rattle.pc_spelling.specs.Spelling.{spelled_record}
+use Rattle.pc_spelling.specs.RecordForm.{IsRecordFault}
+use Rattle.pc_account.specs.State.{State, new_state}
+use Rattle.pc_account.specs.Legal.{IsLegalState, IsCanonicalState}
+use Rattle.pc_account.specs.Numbered.{suits, numbered}
+
+-- a state that got a number that suits it is legal
+abbrev pub NumberedIsLegal : Type 0
+NumberedIsLegal = (state : State) (first : ℕ) → IsCanonicalState state → suits state first ≡ true → IsLegalState (numbered state first)
+
+-- a legal state can be saved, in at most 1,073,741,824 bytes, which have no fault
+abbrev pub LegalIsSaved : Type 0
+LegalIsSaved = (state : State) → IsLegalState state → IsCanonicalState state × (length (spelled_record state.held) ≤ 1073741824) × ((place : ℕ) → IsRecordFault (spelled_record state.held) place → ⊥)
+
+-- what is loaded from the bytes of a legal state is the state, once it has its number
+abbrev pub OneState : Type 0
+OneState = (state loaded : State) (number : ℕ) → IsLegalState state → state.next ≡ number → IsCanonicalState loaded → spelled_record loaded.held ≡ spelled_record state.held → (suits loaded number ≡ true) × (numbered loaded number ≡ state)
+
+-- the state of no history can be saved, and suits each number
+abbrev pub BeginSuits : Type 0
+BeginSuits = IsCanonicalState new_state × ((first : ℕ) → 0 < first → suits new_state first ≡ true)

@@ -1,0 +1,163 @@
+-- Clients and subscriptions as they are read.
+use Rattle.std.proofs.Common.{◌≡◌, ℕ, zero, suc, ◌+◌, ◌-◌, ◌<◌, ◌≤◌, ◌&&◌, ◌||◌, nat_lt, nat_le, Bool, true, false, cond, not, List, [], ◌∷◌, ◌++◌, length, IsTrue, refl, sym, ap, subst, ◌∙◌, append_assoc, arith, true≢false, length-append}
+use Rattle.std.specs.List.{list_any, list_all, flat_map, AllByRecursion as Every}
+use Rattle.std.specs.Map.{keys_of}
+use Rattle.std.proofs.lemmas.Bool.{ltb-true, leb-true, lt-ltb, le-leb, and_parts, or_parts, not-true}
+use Rattle.pc_base.specs.Name.{is_name}
+use Rattle.pc_history.specs.Table.{same, is_among}
+use Rattle.pc_history.specs.Legal.{Ordered, AreDistinct}
+use Rattle.pc_history.proofs.Tables.{keys-append, same-sym}
+use Rattle.pc_history.proofs.Uids.{Every-weaker, Every-append}
+use Rattle.pc_history.proofs.Formed.{Ordered-push}
+use Rattle.pc_spelling.specs.Spelling.{client_fields, subscription_fields, short_list, name_field, u16_field, u32_field, u64_field}
+use Rattle.pc_spelling.specs.Fields.{within}
+use Rattle.pc_spelling.specs.RecordForm.{client_fits, subscription_fits}
+use Rattle.pc_spelling.specs.RecordFormat.{last_number, is_new, clients_from, clients_format, subscriptions_from, subscriptions_format}
+use Rattle.pc_spelling.proofs.Good.{Good}
+use Rattle.pc_spelling.proofs.Free.{new_name}
+use Rattle.pc_spelling.proofs.GoodChanges.{fields-push, and-two}
+
+-- ---- names that differ
+
+not-same : (name : List ℕ) (names : List (List ℕ)) → is_among name names ≡ false → Every (λ (other : List ℕ). same other name ≡ false) names
+not-same name [] e = tt
+not-same name (other ∷ names) e = let parts = or_parts (same name other) (is_among name names) e in (same-sym other name ∙ parts.0, not-same name names parts.1)
+
+pub distinct-push : (names : List (List ℕ)) (name : List ℕ) → AreDistinct names → is_new names name ≡ true → AreDistinct (names ++ name ∷ [])
+distinct-push names name distinct new = Ordered-push (λ (a b : List ℕ). same a b ≡ false) names name distinct (not-same name names (not-true (is_among name names) new))
+
+pub keys-push : {X : Type 0} (table : List (List ℕ × X)) (name : List ℕ) (x : X) → keys_of (table ++ (name, x) ∷ []) ≡ keys_of table ++ name ∷ []
+keys-push table name x = keys-append table ((name, x) ∷ [])
+
+pub length-keys : {X : Type 0} (table : List (List ℕ × X)) → length (keys_of table) ≡ length table
+length-keys [] = refl
+length-keys (entry ∷ table) = ap suc (length-keys table)
+
+pub all-push : {X : Type 0} (test : X → Bool) (xs : List X) (x : X) → list_all test xs ≡ true → test x ≡ true → list_all test (xs ++ x ∷ []) ≡ true
+all-push test [] x all here = and-two (test x) true here refl
+all-push test (y ∷ xs) x all here = let parts = and_parts (test y) (list_all test xs) all in and-two (test y) (list_all test (xs ++ x ∷ [])) parts.0 (all-push test xs x parts.1 here)
+
+pub within-parts : (low high n : ℕ) → within low high n ≡ true → (low ≤ n) × (n ≤ high)
+within-parts low high n e = let parts = and_parts (nat_le low n) (nat_le n high) e in (leb-true low n parts.0, leb-true n high parts.1)
+
+pub is-within : (low high n : ℕ) → low ≤ n → n ≤ high → within low high n ≡ true
+is-within low high n le ge = and-two (nat_le low n) (nat_le n high) (le-leb low n le) (le-leb n high ge)
+
+-- ---- clients
+
+-- clients that were read, the last one born with this number
+pub record AreClientsTo (low : ℕ) (clients : List (List ℕ × ℕ)) : Type 0 where
+  pub rise : Ordered (λ (client later : List ℕ × ℕ). client.1 < later.1) clients
+  pub upto : Every (λ (client : List ℕ × ℕ). (0 < client.1) × (client.1 ≤ low)) clients
+  pub last : low ≤ last_number
+  pub distinct : AreDistinct (keys_of clients)
+  pub fit : list_all client_fits clients ≡ true
+
+clients-push : (low : ℕ) (clients : List (List ℕ × ℕ)) (name : List ℕ) (birth : ℕ) → AreClientsTo low clients → is_name name ≡ true → is_new (keys_of clients) name ≡ true → low < birth → birth ≤ last_number → AreClientsTo birth (clients ++ (name, birth) ∷ [])
+clients-push low clients name birth before is new behind last = record {
+  rise = Ordered-push (λ (client later : List ℕ × ℕ). client.1 < later.1) clients (name, birth) before.rise (Every-weaker (λ (client : List ℕ × ℕ). (0 < client.1) × (client.1 ≤ low)) (λ (client : List ℕ × ℕ). client.1 < birth) (λ client h. omega (arith, h.1, behind)) clients before.upto);
+  upto = Every-append (λ (client : List ℕ × ℕ). (0 < client.1) × (client.1 ≤ birth)) clients ((name, birth) ∷ []) (Every-weaker (λ (client : List ℕ × ℕ). (0 < client.1) × (client.1 ≤ low)) (λ (client : List ℕ × ℕ). (0 < client.1) × (client.1 ≤ birth)) (λ client h. (h.0, omega (arith, h.1, behind))) clients before.upto) ((omega (arith, behind), omega arith), tt);
+  last = last;
+  distinct = subst AreDistinct (sym (keys-push clients name birth)) (distinct-push (keys_of clients) name before.distinct new);
+  fit = all-push client_fits clients (name, birth) before.fit (and-two (is_name name) (nat_lt birth 9223372036854775808) is (lt-ltb birth 9223372036854775808 (omega (arith, last))));
+}
+
+-- so many clients were read
+pub record AreReadClients (front fields : List (List ℕ)) (clients : List (List ℕ × ℕ)) : Type 0 where
+  pub spelled : fields ≡ front ++ short_list client_fields clients
+  pub low : ℕ
+  pub are : AreClientsTo low clients
+  pub few : length clients ≤ 16
+
+two-fields : (front : List (List ℕ)) (x y : List ℕ) (total : List (List ℕ)) → front ++ (x ∷ y ∷ []) ≡ total → total ≡ (front ++ x ∷ []) ++ y ∷ []
+two-fields front x y total e = sym e ∙ sym (append_assoc front (x ∷ []) (y ∷ []))
+
+module _ (front : List (List ℕ)) (total : ℕ) (few : total ≤ 16) where
+  abbrev counted : List (List ℕ)
+  counted = front ++ u16_field total ∷ []
+
+  good-clients : (count low : ℕ) (clients : List (List ℕ × ℕ)) → AreClientsTo low clients → total ≡ count + length clients → low + count ≤ last_number
+      → Good (AreReadClients front) (clients_from count low clients) (counted ++ flat_map client_fields clients)
+  good-clients zero low clients before is room =
+      record {
+        spelled = append_assoc front (u16_field total ∷ []) (flat_map client_fields clients) ∙ ap (λ (n : ℕ). front ++ (u16_field n ∷ flat_map client_fields clients)) (let same : total ≡ length clients = omega (arith, is) in same);
+        low = low;
+        are = before;
+        few = omega (arith, is);
+      }
+  good-clients (suc count) low clients before is room =
+      let sample = new_name (keys_of clients) (let same = length-keys clients in omega (arith, is, same)) in (
+        (sample.name, sample.is, sample.new),
+        λ name is-name new. (
+          (suc low, lt-ltb (suc low) 18446744073709551616 (omega (arith, room)), is-within (suc low) (last_number - count) (suc low) (omega arith) (omega (arith, room))),
+          λ birth fit passed.
+              let range = within-parts (suc low) (last_number - count) birth passed in
+              let size = length-append clients ((name, birth) ∷ []) in
+              subst (Good (AreReadClients front) (clients_from count birth (clients ++ (name, birth) ∷ [])))
+              (two-fields (counted ++ flat_map client_fields clients) (name_field name) (u64_field birth) (counted ++ flat_map client_fields (clients ++ (name, birth) ∷ [])) (fields-push client_fields counted clients (name, birth)))
+              (good-clients count birth (clients ++ (name, birth) ∷ []) (clients-push low clients name birth before is-name new (omega (arith, range.0)) (omega (arith, range.1))) (omega (arith, is, size)) (omega (arith, range.1, room))),
+        ),
+      )
+
+pub good_clients : (front : List (List ℕ)) → Good (AreReadClients front) clients_format front
+good_clients front = (
+  (0, refl, refl),
+  λ count fit passed.
+      let range = within-parts 0 16 count passed in
+      subst (Good (AreReadClients front) (clients_from count 0 [])) (append-none (front ++ u16_field count ∷ []))
+      (good-clients front count range.1 count 0 [] (record { rise = tt; upto = tt; last = omega arith; distinct = tt; fit = refl }) (omega arith) (omega (arith, range.1))),
+)
+  where
+    append-none : (xs : List (List ℕ)) → xs ++ [] ≡ xs
+    append-none [] = refl
+    append-none (x ∷ xs) = ap (λ (t : List (List ℕ)). x ∷ t) (append-none xs)
+
+-- ---- subscriptions
+
+pub record AreReadSubscriptions (front fields : List (List ℕ)) (subscriptions : List (List ℕ × ℕ)) : Type 0 where
+  pub spelled : fields ≡ front ++ short_list subscription_fields subscriptions
+  pub distinct : AreDistinct (keys_of subscriptions)
+  pub fit : list_all subscription_fits subscriptions ≡ true
+  pub few : length subscriptions ≤ 64
+
+module _ (front : List (List ℕ)) (total : ℕ) (few : total ≤ 64) where
+  abbrev counted-there : List (List ℕ)
+  counted-there = front ++ u16_field total ∷ []
+
+  good-subscriptions : (count : ℕ) (before : List (List ℕ × ℕ)) → AreDistinct (keys_of before) → list_all subscription_fits before ≡ true → total ≡ count + length before
+      → Good (AreReadSubscriptions front) (subscriptions_from count before) (counted-there ++ flat_map subscription_fields before)
+  good-subscriptions zero before distinct fit is =
+      record {
+        spelled = append_assoc front (u16_field total ∷ []) (flat_map subscription_fields before) ∙ ap (λ (n : ℕ). front ++ (u16_field n ∷ flat_map subscription_fields before)) (let same : total ≡ length before = omega (arith, is) in same);
+        distinct = distinct;
+        fit = fit;
+        few = omega (arith, is);
+      }
+  good-subscriptions (suc count) before distinct fit is =
+      let sample = new_name (keys_of before) (let same = length-keys before in omega (arith, is, same)) in (
+        (sample.name, sample.is, sample.new),
+        λ board is-name new. (
+          (0, refl, refl),
+          λ mark mark-fit passed.
+              let size = length-append before ((board, mark) ∷ []) in
+              subst (Good (AreReadSubscriptions front) (subscriptions_from count (before ++ (board, mark) ∷ [])))
+              (two-fields (counted-there ++ flat_map subscription_fields before) (name_field board) (u32_field mark) (counted-there ++ flat_map subscription_fields (before ++ (board, mark) ∷ [])) (fields-push subscription_fields counted-there before (board, mark)))
+              (good-subscriptions count (before ++ (board, mark) ∷ [])
+              (subst AreDistinct (sym (keys-push before board mark)) (distinct-push (keys_of before) board distinct new))
+              (all-push subscription_fits before (board, mark) fit (and-two (is_name board) (nat_lt mark 4294967296) is-name mark-fit))
+              (omega (arith, is, size))),
+        ),
+      )
+
+pub good_subscriptions : (front : List (List ℕ)) → Good (AreReadSubscriptions front) subscriptions_format front
+good_subscriptions front = (
+  (0, refl, refl),
+  λ count fit passed.
+      let range = within-parts 0 64 count passed in
+      subst (Good (AreReadSubscriptions front) (subscriptions_from count [])) (append-none (front ++ u16_field count ∷ []))
+      (good-subscriptions front count range.1 count [] tt refl (omega arith)),
+)
+  where
+    append-none : (xs : List (List ℕ)) → xs ++ [] ≡ xs
+    append-none [] = refl
+    append-none (x ∷ xs) = ap (λ (t : List (List ℕ)). x ∷ t) (append-none xs)

@@ -1,0 +1,10 @@
+pub mod EntryForm
+pub mod EntryFormat
+pub mod Fault
+pub mod Fields
+pub mod Format
+pub mod Laws
+pub mod RecordForm
+pub mod RecordFormat
+pub mod RecordLaws
+pub mod Spelling

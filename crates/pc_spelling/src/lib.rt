@@ -1,0 +1,13 @@
+//! The spelling of an account: how a store writes and reads its entries and records.
+#![tactic(auto)]
+
+pub mod laws;
+pub mod record_laws;
+mod spelling;
+#[cfg(test)]
+mod tests;
+
+pub use spelling::{
+    Cursor, Halt, read_entry, read_messages, write_bool, write_entry, write_message, write_name,
+    write_u16, write_u32, write_u64,
+};
