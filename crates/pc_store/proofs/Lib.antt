@@ -1,0 +1,10 @@
+pub mod HistoryLemmas
+pub mod ReadingLemmas
+pub mod EntriesLemmas
+pub mod FoundLemmas
+pub mod MadeLemmas
+pub mod SameLemmas
+pub mod OpenedLemmas
+pub mod DueLemmas
+pub mod CommitLemmas
+pub mod FaultLemmas

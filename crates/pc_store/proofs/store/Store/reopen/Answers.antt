@@ -1,0 +1,26 @@
+use Rattle.std.proofs.lemmas.Result.{err_from_is_err_and}
+use Rattle.pc_store.proofs.OpenedLemmas.{held_acknowledged, held_sound, outside_again, same_again, sound_still}
+use Rattle.pc_store.proofs.store.Store.reopen.Goals as goal
+
+pub invariant_of-self : goal.invariant_of-self
+invariant_of-self g c =
+    sound_still g.M.Machine g.D.Disk.tells g.D.Disk.seen g.D.Disk.may_leave _ c.read_settled.new.disk _ _ c.read_settled.ensures.seen c.read_settled.ensures.keeps c.self.invariant
+
+pub invariant_of-self-2 : goal.invariant_of-self-2
+invariant_of-self-2 g c =
+    held_sound g.M.Machine g.D.Disk.tells g.D.Disk.seen g.D.Disk.may_leave c.read_settled.new.disk c.in_ok-history.history c.in_ok-history.ensures.found
+
+pub returns-in_err-history-clause-outside : goal.returns-in_err-history-clause-outside
+returns-in_err-history-clause-outside g c told =
+    let p = err_from_is_err_and c.from_residual.result c.from_residual.ensures.1 in
+    let now = g.D.Disk.seen c.self.inside.disk in
+    rw (p.1, p.2) (outside_again g.M.Machine _ _ _ now c.in_err-history.field-0.0 (λ head trail stands. c.in_err-history.ensures.only told head trail stands)
+    (c.self.invariant.leaves told now (g.met.D.Disk.present told c.self.inside.disk)))
+
+pub returns-clause-same : goal.returns-clause-same
+returns-clause-same g c told =
+    let now = g.D.Disk.seen c.self.inside.disk in
+    rw (← c.self.view_is) (same_again g.M.Machine _ _ now (λ head trail stands. c.in_ok-history.ensures.only told head trail stands) (c.self.invariant.leaves told now (g.met.D.Disk.present told c.self.inside.disk)))
+
+pub returns-clause-acknowledged : goal.returns-clause-acknowledged
+returns-clause-acknowledged g c told = held_acknowledged g.M.Machine g.D.Disk.tells g.D.Disk.seen g.D.Disk.may_leave c.read_settled.new.disk c.in_ok-history.history told c.in_ok-history.ensures.found

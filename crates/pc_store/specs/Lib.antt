@@ -1,0 +1,5 @@
+pub mod History
+pub mod Store
+pub mod Opening
+pub mod Commit
+pub mod Reading

@@ -1,0 +1,14 @@
+//! A machine's state on a disk: the record of a base, and a log of the entries since.
+#![tactic(auto)]
+
+mod committing;
+mod fault;
+mod making;
+mod reading;
+mod store;
+
+pub use fault::{CommitFault, OpenFault, StoreFault};
+pub use store::Store;
+
+#[cfg(test)]
+mod tests;
