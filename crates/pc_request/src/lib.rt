@@ -3,6 +3,7 @@
 
 mod arguments;
 pub mod laws;
+mod lengths;
 mod operation;
 mod reading;
 mod request;

@@ -5,6 +5,8 @@ ghost use Rattle.std.specs.Char.{to_ascii_lowercase};
 ghost use Rattle.pc_request.specs.Operation.{word_of, operations, operation_named, IsNamed};
 ghost use Rattle.pc_request.specs.declared.operation.Operation.{Operation};
 
+use crate::lengths::of_length;
+
 /// What a request asks for.
 #[derive(Clone, Copy, Debug, PartialEq, Eq)]
 pub enum Operation {
@@ -90,6 +92,10 @@ impl Operation {
         ensures named { IfSome result (λ operation. IsNamed operation word.now) }
         ensures unknown { IfNone result ((operation : Operation) → ¬ IsNamed operation word.now) }
     {
+        // Those whose words have the length come first, and are all that can be named so.
+        if let Some(operation) = named_among(of_length(word.len()), word) {
+            return Some(operation);
+        }
         for operation in Operation::all() {
             if is_spelled(word, operation.word()) {
                 return Some(*operation);
@@ -140,9 +146,23 @@ impl Operation {
     }
 }
 
-/// Whether the bytes are the word, in capitals or small letters. Most are in capitals, and compare at once.
+/// The first of these operations that the word names.
+fn named_among(operations: &[Operation], word: &[u8]) -> Option<Operation>
+    ensures { IfSome result (λ operation. IsNamed operation word.now) }
+{
+    for operation in operations {
+        if is_spelled(word, operation.word()) {
+            return Some(*operation);
+        }
+    }
+    None
+}
+
+/// Whether the bytes are the word, in capitals or small letters. Most words differ in length, and
+/// most bytes are in capitals and compare at once.
+#[inline]
 fn is_spelled(bytes: &[u8], word: &[u8]) -> bool
     ensures same { IsTrue result ↔ (map to_ascii_lowercase bytes.now ≡ map to_ascii_lowercase word.now) }
 {
-    bytes == word || bytes.eq_ignore_ascii_case(word)
+    bytes.len() == word.len() && (bytes == word || bytes.eq_ignore_ascii_case(word))
 }

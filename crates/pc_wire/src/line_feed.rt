@@ -5,7 +5,7 @@ ghost use Rattle.pc_wire.specs.Lines.{has_feed, without_return as unreturned};
 ghost use Rattle.pc_wire.specs.LineFeed.{fed, Feeds, IsOver};
 ghost use Rattle.pc_wire.specs.Next.{ShowsLine, ShowsNext, ShowsLast};
 
-use crate::places::first_place;
+use crate::places::feed_place;
 use arrayvec::ArrayVec;
 use std::marker::Model;
 
@@ -63,7 +63,7 @@ impl LineFeed {
         if self.is_whole {
             return 0;
         }
-        let end = first_place(piece, b'\n');
+        let end = feed_place(piece);
         self.keep(&piece[..end]);
         if end == piece.len() {
             return end;

@@ -1,11 +1,11 @@
 -- What reading the words of a line gives.
-use Rattle.std.specs.Prelude.{◌≡◌, ℕ, IsTrue, List, [], ◌∷◌, Result, Ok, Err}
+use Rattle.std.specs.Prelude.{◌≡◌, ℕ, ◌≤◌, false, IsTrue, List, [], ◌∷◌, length, codes, Result, Ok, Err}
 use Rattle.pc_base.specs.Name.{is_name, is_password}
 use Rattle.pc_wire.specs.Words.{words_of, without_spaces, after_word}
 use Rattle.pc_world.specs.declared.event.Event.{Event}
 use Rattle.pc_world.specs.declared.event.EventFault.{EventFault}
 use Rattle.pc_world.specs.declared.event.Event.TheVariants.{User, Ask}
-use Rattle.pc_world.specs.Events.{IsSaid, IsAsked}
+use Rattle.pc_world.specs.Events.{IsSaid, IsAsked, is_silent, most_line, text_asked}
 
 -- the event that a line says, and no other, or that it says none
 abbrev pub Says : List ℕ → Result Event EventFault → Type 0
@@ -27,3 +27,10 @@ SaysAsk words (Ok (Ask user asked)) =
     × ((other : _) → IsAsked (without_spaces (after_word words)) other → other ≡ asked)
 SaysAsk words (Ok _) = ⊥
 SaysAsk words (Err fault) = (user : List ℕ) (others : List (List ℕ)) → words_of words ≡ user ∷ others → IsTrue (is_name user) → ⊥
+
+-- the line says `ask`, this word for the user, and then this text
+pub record IsAsking (line user text : List ℕ) : Type 0 where
+  pub short : length line ≤ most_line
+  pub loud : is_silent line ≡ false
+  pub split : words_of line ≡ codes "ask" ∷ user ∷ words_of (text_asked line)
+  pub text_is : text ≡ text_asked line

@@ -1,12 +1,12 @@
 //! Lines of a script, read as events.
 
-ghost use Rattle.std.specs.Prelude.{◌≡◌, [], ◌∷◌, IfOk, IfErr, OnErr, Ok, Err, Some};
+ghost use Rattle.std.specs.Prelude.{◌≡◌, ◌≤◌, false, [], ◌∷◌, length, IsTrue, IfOk, IfErr, OnErr, IfSome, Ok, Err, Some};
 ghost use Rattle.pc_request.specs.Request.{IsRequest};
 ghost use Rattle.pc_request.specs.Fault.{fault_of};
 ghost use Rattle.pc_request.specs.declared.request.Request.{Request as RequestValue};
 ghost use Rattle.pc_request.specs.declared.request.RequestFault.{RequestFault as FaultValue};
 ghost use Rattle.pc_world.specs.Events.{is_silent, IsAsked, IsEvent};
-ghost use Rattle.pc_world.specs.Reading.{Says, SaysAsk, SaysUser};
+ghost use Rattle.pc_world.specs.Reading.{IsAsking, Says, SaysAsk, SaysUser};
 ghost use Rattle.pc_world.specs.declared.event.Asked.{Asked as AskedValue};
 ghost use Rattle.pc_world.specs.declared.event.Event.{Event as EventValue};
 
@@ -18,7 +18,7 @@ use pc_wire::{next_word, without_spaces};
 /// The most bytes of a line, and of a request in it.
 const MOST_LINE: usize = 1000;
 
-const MOST_REQUEST: usize = 512;
+pub(crate) const MOST_REQUEST: usize = 512;
 
 /// The event that a line is. `Bad` comes exactly where it is none: a line of more than 1,000
 /// bytes, or one that isn't spelled as any event.
@@ -95,6 +95,28 @@ fn said_ask(words: &[u8]) -> Result<Event, EventFault>
     };
     let asked = asked(without_spaces(rest));
     Ok(Event::Ask { user, asked })
+}
+
+/// The user that a line which says `ask` is said to come from, and the text behind the user.
+pub(crate) fn asking(line: &[u8]) -> Option<(&[u8], &[u8])>
+    ensures { IfSome result (λ found. IsAsking line.now found.0.now found.1.now) }
+{
+    if !says_something(line) {
+        return None;
+    }
+    let (word, rest) = next_word(line)?;
+    if word != b"ask".as_slice() {
+        return None;
+    }
+    let (user, rest) = next_word(rest)?;
+    Some((user, without_spaces(rest)))
+}
+
+/// Whether the line isn't too long, and neither empty nor a comment.
+fn says_something(line: &[u8]) -> bool
+    ensures { IsTrue result → (length line.now ≤ 1000) × (is_silent line.now ≡ false) }
+{
+    line.len() <= MOST_LINE && !is_silent_line(line)
 }
 
 /// What a text asks for.

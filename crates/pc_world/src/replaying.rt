@@ -1,16 +1,19 @@
 //! The replay of a script: its lines are read, played and written as a transcript.
 
-ghost use Rattle.std.specs.Prelude.{◌≡◌, ℕ, ◌≤◌, List, []};
+ghost use Rattle.std.specs.Prelude.{◌≡◌, ℕ, ◌≤◌, List, [], IsTrue, is_some};
+ghost use Rattle.pc_base.specs.Name.{is_name};
 ghost use Rattle.pc_base.specs.Stream.{Rose, HasCause};
 ghost use Rattle.pc_wire.specs.Next.{ShowsLine};
 ghost use Rattle.pc_wire.specs.Reader.{TakesFront, no_line, unread};
+ghost use Rattle.pc_world.specs.Reading.{IsAsking};
+ghost use Rattle.pc_world.specs.Steps.{entries_of};
 ghost use Rattle.pc_world.specs.Replay.{PlaysLine, TakesTurn, Finishes, Sends, Ends, Completes, Refuses};
 
 use crate::laws::{refused_once, refused_or_run};
-use crate::reading::read_event;
+use crate::reading::{asking, read_event};
 use crate::turn::Turn;
 use crate::world::World;
-use pc_base::{Failed, Sink, Source, write_all};
+use pc_base::{Failed, Name, Sink, Source, write_all};
 use pc_wire::{Fetched, LineReader, Next};
 use std::alloc::Global;
 
@@ -174,6 +177,39 @@ fn play_shown(alloc: Global, shown: Next<'_>, world: &mut World, text: &mut Vec<
 
 /// Plays a line.
 fn play_line(alloc: Global, line: &[u8], world: &mut World, text: &mut Vec<u8>) -> Turn
+    ensures { PlaysLine world.old world.new text.old.items text.new.items line.now result }
+{
+    // Most lines are what a user asks who is there, and are played without an event.
+    if let Some((word, words)) = asking(line) {
+        if let Some(user) = world.user_named(word) {
+            return play_asked(alloc, &user, words, world, text);
+        }
+    }
+    play_event(alloc, line, world, text)
+}
+
+/// Plays what a user asks with these words, who is there.
+fn play_asked(
+    alloc: Global,
+    user: &Name,
+    words: &[u8],
+    world: &mut World,
+    text: &mut Vec<u8>,
+) -> Turn
+    requires { IsTrue (is_some (entries_of world.old user.now)) }
+    ensures { (line : List ℕ) → IsAsking line user.now words.now → IsTrue (is_name user.now) → PlaysLine world.old world.new text.old.items text.new.items line result }
+{
+    let length = text.len();
+    if world.ask_text(alloc, user, words, text).is_err() {
+        text.truncate(length);
+        return Turn::Memory;
+    }
+    Turn::Played
+}
+
+/// Plays the event that a line is. Out of line, so that other lines don't pay for its events.
+#[inline(never)]
+fn play_event(alloc: Global, line: &[u8], world: &mut World, text: &mut Vec<u8>) -> Turn
     ensures { PlaysLine world.old world.new text.old.items text.new.items line.now result }
 {
     let read = read_event(line);

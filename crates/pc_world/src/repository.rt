@@ -8,11 +8,15 @@ ghost use Rattle.pc_history.specs.Known.{Known};
 ghost use Rattle.pc_account.specs.Answers.{answered};
 ghost use Rattle.pc_account.specs.Plan.{IsWish, planned};
 ghost use Rattle.pc_account.specs.declared.answer.Question.TheVariants as question;
+ghost use Rattle.pc_account.specs.declared.wish.Wish.TheVariants as wish;
 ghost use Rattle.pc_world.specs.Account.{history_of};
+ghost use Rattle.pc_world.specs.Events.{IsAsked};
+ghost use Rattle.pc_world.specs.declared.event.Asked.{Asked as AskedValue};
 ghost use Rattle.pc_world.specs.Repository.{fault_head, reply_to_answer, reply_to_plan, refused, reply_to, reply_to_request};
 ghost use Rattle.pc_world.specs.Steps.{printed_reply};
 
 use crate::event::Asked;
+use crate::reading::MOST_REQUEST;
 use crate::transcript::Transcript;
 use crate::user::User;
 use pc_account::{Answer, AskFault, Question, Wish};
@@ -40,6 +44,31 @@ pub(crate) fn answer<T: Transcript>(
     }
 }
 
+/// Prints the reply to what a user asks with a text, and keeps its entry. After `Err` the user isn't
+/// used again.
+pub(crate) fn answer_text<T: Transcript>(
+    alloc: Global,
+    user: &mut User,
+    name: &Name,
+    text: &[u8],
+    transcript: &mut T,
+) -> Result<(), Memory>
+    ensures asked { (asked : AskedValue) × (IsAsked text.now asked
+        × OnOk result (T.adds transcript.old (printed_reply name.now (reply_to (history_of user.old.entries) asked)) transcript.new)
+        × OnOk result (user.new.entries ≡ user.old.entries ++ option_to_list (reply_to (history_of user.old.entries) asked).entry)) }
+    ensures user { user.new.user ≡ user.old.user }
+    ensures err { OnErr result (T.keeps transcript.old transcript.new) }
+{
+    if text.len() > MOST_REQUEST {
+        return refuse(alloc, name, &Refusal::LineTooLong, transcript);
+    }
+    let read = Request::read(text);
+    match &read {
+        Ok(request) => answer_request(alloc, user, name, request, transcript),
+        Err(fault) => refuse(alloc, name, &refusal_of(fault), transcript),
+    }
+}
+
 #[tactic(auto, unfolding(crate::specs::Repository::reply_to_request))]
 fn answer_request<T: Transcript>(
     alloc: Global,
@@ -55,12 +84,48 @@ fn answer_request<T: Transcript>(
 {
     match request {
         Request::CreateMailbox { mailbox } => {
-            let wish = Wish::MakeMailbox { mailbox: *mailbox };
-            change(alloc, user, name, &wish, transcript)
+            create_mailbox(alloc, user, name, mailbox, transcript)
         }
         Request::ListMailboxes => list_mailboxes(alloc, user, name, transcript),
         _ => refuse(alloc, name, &Refusal::UnknownOperation, transcript),
     }
+}
+
+/// Replies to a request for a new mailbox. Where its name is there already, no wish is made of it.
+fn create_mailbox<T: Transcript>(
+    alloc: Global,
+    user: &mut User,
+    name: &Name,
+    mailbox: &Name,
+    transcript: &mut T,
+) -> Result<(), Memory>
+    ensures prints { OnOk result (T.adds transcript.old (printed_reply name.now (reply_to_plan (planned (known (history_of user.old.entries)) (wish.MakeMailbox mailbox.now)))) transcript.new) }
+    ensures user { user.new.user ≡ user.old.user }
+    ensures entry { OnOk result (user.new.entries ≡ user.old.entries ++ option_to_list (reply_to_plan (planned (known (history_of user.old.entries)) (wish.MakeMailbox mailbox.now))).entry) }
+    ensures err { OnErr result (T.keeps transcript.old transcript.new) }
+{
+    if user.has_mailbox(mailbox) {
+        return refuse(alloc, name, &Refusal::MailboxExists, transcript);
+    }
+    make_mailbox(alloc, user, name, mailbox, transcript)
+}
+
+/// Replies to a wish for a new mailbox. Out of line, so that other requests don't pay for the wish.
+#[inline(never)]
+fn make_mailbox<T: Transcript>(
+    alloc: Global,
+    user: &mut User,
+    name: &Name,
+    mailbox: &Name,
+    transcript: &mut T,
+) -> Result<(), Memory>
+    ensures prints { OnOk result (T.adds transcript.old (printed_reply name.now (reply_to_plan (planned (known (history_of user.old.entries)) (wish.MakeMailbox mailbox.now)))) transcript.new) }
+    ensures user { user.new.user ≡ user.old.user }
+    ensures entry { OnOk result (user.new.entries ≡ user.old.entries ++ option_to_list (reply_to_plan (planned (known (history_of user.old.entries)) (wish.MakeMailbox mailbox.now))).entry) }
+    ensures err { OnErr result (T.keeps transcript.old transcript.new) }
+{
+    let wish = Wish::MakeMailbox { mailbox: *mailbox };
+    change(alloc, user, name, &wish, transcript)
 }
 
 /// Replies to a request that changes.
@@ -85,6 +150,7 @@ fn change<T: Transcript>(
 }
 
 /// Replies with the list of mailboxes.
+#[inline(never)]
 fn list_mailboxes<T: Transcript>(
     alloc: Global,
     user: &User,
@@ -109,8 +175,13 @@ fn refuse<T: Transcript>(
     ensures ok { OnOk result (T.adds transcript.old (printed_reply user.now (refused (head_of refusal.now))) transcript.new) }
     ensures err { OnErr result (T.keeps transcript.old transcript.new) }
 {
-    let head = refusal.head();
-    transcript.print_reply(alloc, user, head.bytes(), &[])
+    match refusal.fixed_head() {
+        Some(head) => transcript.print_reply(alloc, user, head, &[]),
+        None => {
+            let head = refusal.head();
+            transcript.print_reply(alloc, user, head.bytes(), &[])
+        }
+    }
 }
 
 fn refusal_of(fault: &RequestFault) -> Refusal

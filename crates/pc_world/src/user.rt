@@ -1,6 +1,7 @@
 //! A user of a world.
 
 ghost use Rattle.std.specs.Prelude.{◌≡◌, ◌++◌, [], ◌∷◌, IsTrue, IfOk, OnOk};
+ghost use Rattle.pc_history.specs.Allowed.{is_mailbox};
 ghost use Rattle.pc_history.specs.History.{known};
 ghost use Rattle.pc_history.specs.Known.{Known};
 ghost use Rattle.pc_account.specs.Answers.{Tells, answered};
@@ -60,6 +61,13 @@ impl User {
         ensures { result.now ≡ self.now.user }
     {
         &self.name
+    }
+
+    /// Whether the user has a mailbox of this name.
+    pub(crate) fn has_mailbox(&self, mailbox: &Name) -> bool
+        ensures { result ≡ is_mailbox (known (history_of self.now.entries)) mailbox.now }
+    {
+        self.account.has_mailbox(mailbox)
     }
 
     /// What the account answers to a question.

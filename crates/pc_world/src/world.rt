@@ -1,11 +1,14 @@
 //! The world of a script: its users and their accounts.
 
-ghost use Rattle.std.specs.Prelude.{◌≡◌, [], ◌∷◌, is_some, IsTrue, IfOk, OnOk, OnErr};
+ghost use Rattle.std.specs.Prelude.{◌≡◌, [], ◌∷◌, is_some, IsTrue, IfSome, IfOk, OnOk, OnErr};
+ghost use Rattle.pc_base.specs.Name.{is_name};
+ghost use Rattle.pc_world.specs.Events.{IsAsked};
+ghost use Rattle.pc_world.specs.declared.event.Asked.{Asked as AskedValue};
 ghost use Rattle.pc_world.specs.declared.event.Event.TheVariants.{Ask};
 ghost use Rattle.pc_world.specs.Steps.{Prints, Step, enrolled, entries_of, fits as suits, printed_user};
 
 use crate::event::{Asked, Event};
-use crate::repository::answer;
+use crate::repository::{answer, answer_text};
 use crate::transcript::Transcript;
 use crate::user::User;
 use pc_base::{Memory, Name, Password, Printed};
@@ -86,6 +89,20 @@ impl World {
         }
     }
 
+    /// The user whose name this word is.
+    pub(crate) fn user_named(&self, word: &[u8]) -> Option<Name>
+        ensures { IfSome result (λ name. (name ≡ word.now) × IsTrue (is_name name) × IsTrue (is_some (entries_of self.now name))) }
+    {
+        let Some(user) = &self.user else {
+            return None;
+        };
+        let name = user.name();
+        if name.bytes() != word {
+            return None;
+        }
+        Some(*name)
+    }
+
     fn enrol<T: Transcript>(
         &mut self,
         alloc: Global,
@@ -119,5 +136,23 @@ impl World {
             unreachable!();
         };
         answer(alloc, user, name, asked, transcript)
+    }
+
+    /// Plays what a user asks with a text, who is there. After `Err` the world isn't used again.
+    pub(crate) fn ask_text<T: Transcript>(
+        &mut self,
+        alloc: Global,
+        name: &Name,
+        text: &[u8],
+        transcript: &mut T,
+    ) -> Result<(), Memory>
+        requires { IsTrue (is_some (entries_of self.old name.now)) }
+        ensures asked { (asked : AskedValue) × (IsAsked text.now asked × OnOk result (Prints self.old (Ask name.now asked) self.new (T.adds transcript.old) transcript.new)) }
+        ensures err { OnErr result (T.keeps transcript.old transcript.new) }
+    {
+        let Some(user) = &mut self.user else {
+            unreachable!();
+        };
+        answer_text(alloc, user, name, text, transcript)
     }
 }

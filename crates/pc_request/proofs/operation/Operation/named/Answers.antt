@@ -31,3 +31,6 @@ returns-clause-unknown c = λ operation named.
     let found = operation_named-is operation c.args.word.now named in
     let over = nothing c in
     cc
+
+pub returns-in-Some-clause-value : goal.returns-in-Some-clause-value
+returns-in-Some-clause-value c = sym (operation_named-is c.in-Some.operation c.args.word.now c.in-Some.ensures)
