@@ -1,8 +1,14 @@
 //! Tests on rows that were worked out by hand, and of what no clause says.
 
-use crate::{Account, Entry, digest};
+mod limits;
+mod player;
+mod refusals;
+mod rows;
+mod telling;
+mod words;
+
+use crate::digest;
 use pc_base::{Name, Password};
-use std::alloc::Global;
 use std::test::Fail;
 
 /// The digest of `ann` and `sesame`, by another program.
