@@ -52,9 +52,8 @@ head_of refused.ClientHasSession = codes "428 Client has a session"
 head_of refused.VersionUnknown = codes "429 Version unknown"
 head_of refused.JournalFull = codes "430 Journal full"
 
--- whether a refusal tells more than its kind
+-- whether the head of a refusal has a number or an address in it
 unfoldable pub tells_more : Refusal → Bool
 tells_more (refused.Superseded _) = true
 tells_more (refused.UnknownRecipient _) = true
-tells_more (refused.LimitReached _) = true
 tells_more _ = false

@@ -78,12 +78,14 @@ impl Hash for Name {
     ghost use Rattle.std.specs.Hash as fed;
     ghost use Rattle.std.proofs.Common.{rules};
 
-    ghost hash_input = { fed.slice fed.u8 };
+    ghost hash_input = { fed.str };
 
     ghost respects_eq = { Prim.search (hashing, rules) };
 
+    // As a text, all bytes at once and then a byte that no name has.
     fn hash<H: Hasher>(&self, state: &mut H) {
-        self.bytes().hash(state);
+        state.write(self.bytes());
+        state.write_u8(0xff);
     }
 }
 
@@ -125,7 +127,8 @@ impl Ord for Name {
 fn is_name_byte(byte: u8) -> bool
     ensures { result ≡ fits_name byte }
 {
-    matches!(byte, b'a'..=b'z' | b'0'..=b'9' | b'.' | b'_' | b'-')
+    // Most bytes are letters.
+    is_letter(byte) || matches!(byte, b'0'..=b'9' | b'.' | b'_' | b'-')
 }
 
 fn is_name(bytes: &[u8]) -> bool

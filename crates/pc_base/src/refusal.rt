@@ -1,12 +1,15 @@
 //! Refusals of the repository: one variant for each reply head from 400 to 430.
 
-ghost use Rattle.std.specs.Prelude.{◌≡◌, ◌≤◌, ◌+◌, ◌++◌, length, IfSome, IfNone, IsTrue};
+ghost use Rattle.std.specs.Prelude.{◌≡◌, ◌≤◌, ◌+◌, ◌++◌, codes, length, IfSome, IfNone, IsTrue};
 ghost use Rattle.pc_base.specs.Refusal.{head_of, limit_word, tells_more};
 
 use crate::recipient::Recipient;
 use crate::short_text::ShortText;
 use arrayvec::ArrayVec;
 use itoa::Buffer;
+
+/// How many bytes the head of a limit has in front of its word.
+const LIMIT_REACHED: usize = 18;
 
 /// Which limit a change would pass.
 #[derive(Clone, Copy, Debug, PartialEq, Eq)]
@@ -92,21 +95,30 @@ impl LimitWord {
         ensures value { result.now ≡ limit_word self }
         ensures short { length result.now ≤ 13 }
     {
+        let (_, word) = self.head().split_at(LIMIT_REACHED);
+        word
+    }
+
+    /// The head of the reply that tells it.
+    fn head(self) -> &'static [u8]
+        ensures value { result.now ≡ codes "418 Limit reached " ++ limit_word self }
+        ensures short { length result.now ≤ 31 }
+    {
         match self {
-            LimitWord::Sessions => b"sessions",
-            LimitWord::Clients => b"clients",
-            LimitWord::Mailboxes => b"mailboxes",
-            LimitWord::Users => b"users",
-            LimitWord::Boards => b"boards",
-            LimitWord::Addresses => b"addresses",
-            LimitWord::Recipients => b"recipients",
-            LimitWord::Uids => b"uids",
-            LimitWord::Messages => b"messages",
-            LimitWord::Bytes => b"bytes",
-            LimitWord::Changes => b"changes",
-            LimitWord::Waiting => b"waiting",
-            LimitWord::Board => b"board",
-            LimitWord::Subscriptions => b"subscriptions",
+            LimitWord::Sessions => b"418 Limit reached sessions",
+            LimitWord::Clients => b"418 Limit reached clients",
+            LimitWord::Mailboxes => b"418 Limit reached mailboxes",
+            LimitWord::Users => b"418 Limit reached users",
+            LimitWord::Boards => b"418 Limit reached boards",
+            LimitWord::Addresses => b"418 Limit reached addresses",
+            LimitWord::Recipients => b"418 Limit reached recipients",
+            LimitWord::Uids => b"418 Limit reached uids",
+            LimitWord::Messages => b"418 Limit reached messages",
+            LimitWord::Bytes => b"418 Limit reached bytes",
+            LimitWord::Changes => b"418 Limit reached changes",
+            LimitWord::Waiting => b"418 Limit reached waiting",
+            LimitWord::Board => b"418 Limit reached board",
+            LimitWord::Subscriptions => b"418 Limit reached subscriptions",
         }
     }
 }
@@ -153,6 +165,7 @@ impl Refusal {
             Refusal::ClientHasSession => Some(b"428 Client has a session"),
             Refusal::VersionUnknown => Some(b"429 Version unknown"),
             Refusal::JournalFull => Some(b"430 Journal full"),
+            Refusal::LimitReached { limit } => Some(limit.head()),
             _ => None,
         }
     }
@@ -172,7 +185,6 @@ impl Refusal {
                 )
             }
             Refusal::UnknownRecipient { shown } => joined(b"416 Unknown recipient ", shown.bytes()),
-            Refusal::LimitReached { limit } => joined(b"418 Limit reached ", limit.word()),
             _ => unreachable!(),
         }
     }
