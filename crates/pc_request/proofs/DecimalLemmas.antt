@@ -1,9 +1,7 @@
 -- A number that is written in digits is read again, and so is an argument that is a number.
-use Rattle.std.proofs.Common.{◌≡◌, ℕ, ◌+◌, ◌/◌, ◌%◌, ◌^◌, ◌<◌, ◌≤◌, Bool, true, false, ◌&&◌, IsTrue, decimal, List, [], ◌∷◌, ◌++◌, length, length-append, ap, ◌∙◌, arith, lit<}
-use Rattle.std.specs.List.{list_all}
-use Rattle.std.proofs.lemmas.Bool.Decides.{nat_tests}
-use Rattle.std.proofs.lemmas.Fmt.{decimal_by_steps, decimal_digit, length-decimal-le}
-use Rattle.pc_base.specs.Number.{is_digit, decimal_value, is_number}
+use Rattle.std.proofs.Common.{◌≡◌, ℕ, ◌^◌, ◌<◌, ◌≤◌, Bool, true, false, IsTrue, decimal, [], ◌∷◌, ap, ◌∙◌, arith, lit<}
+use Rattle.std.proofs.lemmas.Fmt.{decimal_digit}
+use Rattle.pc_base.specs.Number.{is_number}
 use Rattle.pc_request.specs.Argument.{IsDigits, IsSpelled, written}
 use Rattle.pc_request.specs.Argument as argument
 use Rattle.pc_wire.proofs.DecimalLemmas.{decimal_digits, is_number-decimal as number_is_read}

@@ -5,7 +5,7 @@ use Rattle.pc_request.specs.Argument.{Argument, IsSpelled, AreSpelled}
 use Rattle.pc_request.specs.Argument as argument
 use Rattle.pc_request.specs.Operation.{IsNamed}
 use Rattle.pc_request.specs.Reading.{ReadsArguments}
-use Rattle.pc_request.specs.Request.{call_of, SpellCall, IsRequest, IsWritable}
+use Rattle.pc_request.specs.Request.{call_of, Calls, SpellCall, IsRequest, IsWritable}
 use Rattle.pc_request.specs.Fault.{kinds_of, fault_of_arguments, fault_of_call, fault_of_words, fault_of}
 use Rattle.pc_request.specs.declared.operation.Operation.{Operation}
 use Rattle.pc_request.specs.declared.operation.Operation.TheVariants as operation
@@ -153,3 +153,13 @@ module _ (line first : List ℕ) (others : List (List ℕ)) (operation : Operati
   pub writable : (result : Result Request RequestFault) → ReadsArguments operation others result → IfOk result IsWritable
   writable (Ok request) reads = IsWritable-request request line (IsRequest-read request reads)
   writable (Err fault) reads = tt
+
+-- a call whose other words spell the arguments of a request is that request
+pub called-request : (which : Request) (words others : List (List ℕ)) → Calls (call_of which).0 others words → AreSpelled (call_of which).1 others → SpellCall (call_of which) words
+called-request which words others (first, (read, named, found)) spelled =
+    subst (SpellCall (call_of which)) (sym read) (named, spelled)
+
+-- what is wrong with the arguments of a call is wrong with the words
+pub called-fault : (operation : Operation) (words others : List (List ℕ)) (fault : RequestFault) → Calls operation others words → fault_of_arguments (kinds_of operation) others ≡ Some fault → fault_of_words words ≡ Some fault
+called-fault operation words others fault (first, (read, named, found)) faulty =
+    ap fault_of_words read ∙ ap (λ call. fault_of_call call others) found ∙ faulty

@@ -1,9 +1,9 @@
 -- The requests and the lines that spell them.
-use Rattle.std.specs.Prelude.{ℕ, ◌≤◌, ◌++◌, List, [], ◌∷◌, ⊤}
+use Rattle.std.specs.Prelude.{◌≡◌, ℕ, ◌≤◌, ◌++◌, List, [], ◌∷◌, ⊤, Some}
 use Rattle.pc_wire.specs.Words.{words_of}
 use Rattle.pc_request.specs.Argument.{Argument, AreSpelled, written_behind}
 use Rattle.pc_request.specs.Argument as argument
-use Rattle.pc_request.specs.Operation.{IsNamed, word_of}
+use Rattle.pc_request.specs.Operation.{IsNamed, operation_named, word_of}
 use Rattle.pc_request.specs.declared.operation.Operation.{Operation}
 use Rattle.pc_request.specs.declared.operation.Operation.TheVariants as operation
 use Rattle.pc_request.specs.declared.request.Request.{Request}
@@ -48,6 +48,11 @@ call_of request.SendMessage = (operation.SendMessage, [])
 abbrev pub SpellCall : Operation × List Argument → List (List ℕ) → Type 0
 SpellCall call [] = ⊥
 SpellCall call (first ∷ others) = IsNamed call.0 first × AreSpelled call.1 others
+
+-- the first word names the operation, and these are the others
+abbrev pub Calls : Operation → List (List ℕ) → List (List ℕ) → Type 0
+Calls operation others words =
+    (first : List ℕ) × ((words ≡ first ∷ others) × IsNamed operation first × (operation_named first ≡ Some operation))
 
 -- the line spells the request: the request's operation and its arguments, one word each
 abbrev pub IsRequest : Request → List ℕ → Type 0

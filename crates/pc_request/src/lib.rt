@@ -11,6 +11,7 @@ mod text;
 mod writing;
 
 pub use operation::Operation;
+pub use reading::{no_arguments, one_name};
 pub use request::{Request, RequestFault};
 pub use text::LINE_ROOM;
 

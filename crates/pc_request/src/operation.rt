@@ -1,11 +1,16 @@
 //! The operations that a request can name.
 
-ghost use Rattle.std.specs.Prelude.{◌≡◌, ◌≤◌, ◌↔◌, length, map, IfSome, IfNone, IsTrue};
+ghost use Rattle.std.specs.Prelude.{◌≡◌, ◌≤◌, ◌↔◌, Some, length, map, IfSome, IfNone, MatchOption, IsTrue};
 ghost use Rattle.std.specs.Char.{to_ascii_lowercase};
 ghost use Rattle.pc_request.specs.Operation.{word_of, operations, operation_named, IsNamed};
+ghost use Rattle.pc_wire.specs.Words.{words_of};
+ghost use Rattle.pc_request.specs.Fault.{fault_of};
+ghost use Rattle.pc_request.specs.Request.{Calls};
 ghost use Rattle.pc_request.specs.declared.operation.Operation.{Operation};
+ghost use Rattle.pc_request.specs.declared.request.RequestFault.TheVariants as fault;
 
 use crate::lengths::of_length;
+use pc_wire::next_word;
 
 /// What a request asks for.
 #[derive(Clone, Copy, Debug, PartialEq, Eq)]
@@ -84,6 +89,19 @@ impl Operation {
         ensures { result.now ≡ operations }
     {
         &ALL
+    }
+
+    /// The operation that a line's first word names, and what follows that word. None comes where
+    /// the line has no word, or its first names no operation. The line is a request where what
+    /// follows are the arguments of the operation, as `Request::read` and the readers of arguments
+    /// tell.
+    #[inline]
+    pub fn called(line: &[u8]) -> Option<(Operation, &[u8])>
+        ensures { MatchOption result (fault_of line.now ≡ Some fault.Unknown) (λ found. Calls found.0 (words_of found.1.now) (words_of line.now)) }
+    {
+        let (first, others) = next_word(line)?;
+        let operation = Operation::named(first)?;
+        Some((operation, others))
     }
 
     /// The operation that the word names, in capitals or small letters.

@@ -72,14 +72,15 @@ pub fn read_arguments(operation: Operation, words: &[u8]) -> Result<Request, Req
 }
 
 /// No arguments.
-fn no_arguments(words: &[u8]) -> Result<(), RequestFault>
+pub fn no_arguments(words: &[u8]) -> Result<(), RequestFault>
     ensures { ReadsWords [] (λ _. []) (words_of words.now) result }
 {
     no_word(words)
 }
 
 /// The only argument, a name.
-fn one_name(words: &[u8]) -> Result<Name, RequestFault>
+#[inline]
+pub fn one_name(words: &[u8]) -> Result<Name, RequestFault>
     ensures { ReadsWords (kind.name ∷ []) (λ name. argument.name name ∷ []) (words_of words.now) result }
 {
     name(one_word(words)?)

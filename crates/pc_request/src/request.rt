@@ -13,7 +13,6 @@ use crate::reading::read_arguments;
 use crate::text::LINE_ROOM;
 use crate::writing::text_of;
 use pc_base::{Failed, Name, Password, ShortText, Sink, write_all};
-use pc_wire::next_word;
 
 /// A request of a client.
 #[derive(Clone, Copy)]
@@ -138,13 +137,10 @@ impl Request {
 
         ensures writable { IfOk result IsWritable }
     {
-        let Some((first, others)) = next_word(line) else {
+        let Some((operation, words)) = Operation::called(line) else {
             return Err(RequestFault::Unknown);
         };
-        let Some(operation) = Operation::named(first) else {
-            return Err(RequestFault::Unknown);
-        };
-        read_arguments(operation, others)
+        read_arguments(operation, words)
     }
 
     /// The line that is written for it, without what ends it: the operation in capitals, one space

@@ -1,3 +1,4 @@
+pub mod AheadLemmas
 pub mod PlaceLemmas
 pub mod LineLemmas
 pub mod FeedLemmas

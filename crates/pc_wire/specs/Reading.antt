@@ -1,5 +1,5 @@
 -- The parts of a line reader: what its feed holds, and how bytes reach it.
-use Rattle.std.specs.Prelude.{◌≡◌, ℕ, ◌<◌, Bool, true, false, List, [], ◌++◌, length, Option, Result, Ok, Err}
+use Rattle.std.specs.Prelude.{◌≡◌, ℕ, ◌+◌, ◌<◌, ⊤, Bool, true, false, List, [], ◌∷◌, ◌++◌, length, take, drop, Option, Result, Ok, Err}
 use Rattle.std.specs.Io.KnownBytes.{Consumes, Keeps, IsAtEnd}
 use Rattle.pc_base.specs.declared.failure.Failed.{Failed}
 use Rattle.pc_wire.specs.Lines.{has_feed, without_return}
@@ -8,30 +8,45 @@ use Rattle.pc_wire.specs.Reader.{Waiting, ReaderState, no_line, waiting, IfTold,
 use Rattle.pc_wire.specs.declared.fetched.Fetched.{Fetched}
 use Rattle.pc_wire.specs.declared.fetched.Fetched.TheVariants.{Waits, End, Overlong}
 use Rattle.pc_wire.specs.declared.fetched.Held.{Held}
-use Rattle.pc_wire.specs.declared.fetched.Held.TheVariants.{Begun, Whole, Last}
+use Rattle.pc_wire.specs.declared.fetched.Held.TheVariants.{Begun, Whole, Last, Ahead}
 
--- the line that waits in a feed
-abbrev pub waiting_in : Held → FeedState → Waiting
-waiting_in Begun feed = no_line
-waiting_in Whole feed = waiting feed.limit (without_return feed.text)
-waiting_in Last feed = waiting feed.limit feed.text
+-- the line that waits in a feed, or at the front of the buffer
+abbrev pub waiting_in : Held → FeedState → List ℕ → Waiting
+waiting_in Begun feed buffer = no_line
+waiting_in Whole feed buffer = waiting feed.limit (without_return feed.text)
+waiting_in Last feed buffer = waiting feed.limit feed.text
+waiting_in (Ahead stop) feed buffer = waiting feed.limit (without_return (take stop buffer))
 
--- the bytes in a feed of a line that hasn't ended
-abbrev pub begun_in : Held → FeedState → List ℕ
-begun_in Begun feed = feed.text
-begun_in Whole feed = []
-begun_in Last feed = []
+-- what was read and isn't used yet, without the line that waits
+abbrev pub ahead_in : Held → FeedState → List ℕ → List ℕ
+ahead_in Begun feed buffer = feed.text ++ buffer
+ahead_in Whole feed buffer = buffer
+ahead_in Last feed buffer = buffer
+ahead_in (Ahead stop) feed buffer = drop (stop + 1) buffer
 
 -- what a reader of these parts is
 abbrev pub state_of : Held → FeedState → List ℕ → ReaderState
 state_of held feed buffer =
-    record { limit = feed.limit; ahead = begun_in held feed ++ buffer; waits = waiting_in held feed }
+    record { limit = feed.limit; ahead = ahead_in held feed buffer; waits = waiting_in held feed buffer }
 
 -- the feed holds what is said of it
 abbrev pub IsHeld : Held → FeedState → Type 0
 IsHeld Begun feed = feed ≡ fed feed.limit feed.text
 IsHeld Whole feed = feed.is_whole ≡ true
 IsHeld Last feed = (feed.is_whole ≡ false) × (0 < length feed.text)
+IsHeld (Ahead stop) feed = feed ≡ fed feed.limit []
+
+-- bytes up to a place, without LF, and the LF at that place are at the front of the buffer
+abbrev pub LineStops : ℕ → List ℕ → Type 0
+LineStops stop buffer =
+    (stop < length buffer) × (has_feed (take stop buffer) ≡ false) × (take (stop + 1) buffer ≡ take stop buffer ++ 10 ∷ [])
+
+-- a line that is said to lie in the buffer does
+abbrev pub LiesAhead : Held → List ℕ → Type 0
+LiesAhead Begun buffer = ⊤
+LiesAhead Whole buffer = ⊤
+LiesAhead Last buffer = ⊤
+LiesAhead (Ahead stop) buffer = LineStops stop buffer
 
 -- a call of `fill` leaves these bytes in the buffer, and loses none
 abbrev pub Fills : List ℕ → Option (List ℕ) → Option (List ℕ) → Result Bool Failed → Type 0

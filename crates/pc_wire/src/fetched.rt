@@ -12,13 +12,15 @@ pub enum Fetched {
     Overlong,
 }
 
-/// What a reader's feed holds.
+/// Where the line is that comes next.
 #[derive(Clone, Copy, Debug, PartialEq, Eq)]
 pub(crate) enum Held {
-    /// What came of a line that hasn't ended; no line waits.
+    /// The feed has what came of a line that hasn't ended; no line waits.
     Begun,
-    /// A line that its LF ended.
+    /// The feed has a line that its LF ended.
     Whole,
-    /// The last line, which no LF ended.
+    /// The feed has the last line, which no LF ended.
     Last,
+    /// The feed has nothing, and the line is in front of what was read ahead, up to the LF at this place.
+    Ahead { stop: usize },
 }

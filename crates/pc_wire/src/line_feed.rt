@@ -118,6 +118,13 @@ impl LineFeed {
         self.text.len()
     }
 
+    /// The most bytes of a line.
+    pub(crate) fn limit(&self) -> u16
+        ensures { result ≡ self.now.limit }
+    {
+        self.limit
+    }
+
     /// Adds bytes to the line, as far as there is room.
     fn keep(&mut self, bytes: &[u8])
         requires { has_feed bytes.now ≡ false }
@@ -130,7 +137,7 @@ impl LineFeed {
 }
 
 /// The line, where the limit lets it pass.
-fn within(limit: u16, line: &[u8]) -> Next<'_>
+pub(crate) fn within(limit: u16, line: &[u8]) -> Next<'_>
     requires { has_feed line.now ≡ false }
     ensures { ShowsLine limit line.now result }
 {
@@ -141,7 +148,7 @@ fn within(limit: u16, line: &[u8]) -> Next<'_>
 }
 
 /// The bytes without the one CR at their end, if there is one.
-fn without_return(bytes: &[u8]) -> &[u8]
+pub(crate) fn without_return(bytes: &[u8]) -> &[u8]
     ensures { result.now ≡ unreturned bytes.now }
 {
     let [front @ .., last] = bytes else {

@@ -1,15 +1,17 @@
 //! Lines of a source, read through a buffer.
 
-ghost use Rattle.std.specs.Prelude.{◌≡◌, ℕ, ◌≤◌, List, [], drop, IfOk};
+ghost use Rattle.std.specs.Prelude.{◌≡◌, ℕ, ◌≤◌, List, [], drop, take, IfOk, IfSome};
+ghost use Rattle.pc_wire.specs.Lines.{without_return as without_ending};
 ghost use Rattle.std.specs.Io.KnownBytes.{prepend_known};
 ghost use Rattle.pc_base.specs.Stream.{HasCause};
 ghost use Rattle.pc_wire.specs.LineFeed.{Feeds};
 ghost use Rattle.pc_wire.specs.Next.{ShowsLine};
 ghost use Rattle.pc_wire.specs.Reader.{TakesFront, no_line, waiting, Fetches, ShowsWaiting};
-ghost use Rattle.pc_wire.specs.Reading.{state_of, IsHeld, Seeks};
+ghost use Rattle.pc_wire.specs.Reading.{state_of, IsHeld, LiesAhead, LineStops, Seeks};
 
 use crate::fetched::{Fetched, Held};
-use crate::line_feed::{LineFeed, Next};
+use crate::line_feed::{LineFeed, Next, within, without_return};
+use crate::places::feed_place;
 use crate::read_buffer::ReadBuffer;
 use pc_base::{Failed, Memory, Source};
 use std::alloc::Global;
@@ -25,13 +27,13 @@ pub struct LineReader {
 
 impl Model for LineReader {
     ghost use Rattle.pc_wire.specs.Reader.{ReaderState};
-    ghost use Rattle.pc_wire.specs.Reading.{state_of, IsHeld};
+    ghost use Rattle.pc_wire.specs.Reading.{state_of, IsHeld, LiesAhead};
 
     ghost Value = { ReaderState };
 
     ghost view = { λ r. state_of r.held r.feed r.buffer };
 
-    ghost invariant = { λ r. IsHeld r.held r.feed };
+    ghost invariant = { λ r. IsHeld r.held r.feed × LiesAhead r.held r.buffer };
 }
 
 impl LineReader {
@@ -58,6 +60,11 @@ impl LineReader {
         ensures front { TakesFront (S.left source.old) (S.left source.new) }
         ensures cause { HasCause (S.faults source.old) (S.faults source.new) result }
     {
+        // Most lines lie whole in what was read ahead, and are shown where they are.
+        if let Some(stop) = line_ahead(&self.buffer, &self.feed) {
+            self.held = Held::Ahead { stop };
+            return Ok(Fetched::Waits);
+        }
         let (held, fetched) = seek_line(&mut self.buffer, &mut self.feed, source);
         self.held = held;
         fetched
@@ -74,6 +81,7 @@ impl LineReader {
             Held::Begun => Next::More,
             Held::Whole => self.feed.next(),
             Held::Last => self.feed.last(),
+            Held::Ahead { stop } => shown_ahead(&self.buffer, stop, self.feed.limit()),
         }
     }
 
@@ -81,12 +89,39 @@ impl LineReader {
     pub fn consume(&mut self)
         ensures { self.new ≡ record self.old { waits = no_line } }
     {
-        if let Held::Begun = self.held {
-            return;
+        match self.held {
+            Held::Begun => {}
+            Held::Whole => self.feed.consume(),
+            Held::Last => self.feed.consume(),
+            Held::Ahead { stop } => self.buffer.skip_past(stop),
         }
-        self.feed.consume();
         self.held = Held::Begun;
     }
+}
+
+/// The place of the LF that ends the next line, where the whole line is read ahead and the feed has
+/// nothing of it.
+fn line_ahead(buffer: &ReadBuffer, feed: &LineFeed) -> Option<usize>
+    requires { IsHeld Held.Begun feed.now }
+    ensures { IfSome result (λ stop. IsHeld (Held.Ahead stop) feed.now × LineStops stop buffer.now) }
+{
+    if feed.count() > 0 {
+        return None;
+    }
+    let bytes = buffer.bytes();
+    let stop = feed_place(bytes);
+    if stop == bytes.len() {
+        return None;
+    }
+    Some(stop)
+}
+
+/// The line in front of the buffer, up to the LF at this place.
+fn shown_ahead(buffer: &ReadBuffer, stop: usize, limit: u16) -> Next<'_>
+    requires { LineStops stop buffer.now }
+    ensures { ShowsLine limit (without_ending (take stop buffer.now)) result }
+{
+    within(limit, without_return(&buffer.bytes()[..stop]))
 }
 
 /// Reads up to an LF, past the limit, or to the end. Answers what the feed holds now, and what
@@ -98,6 +133,7 @@ fn seek_line<S: Source>(
 ) -> (Held, Result<Fetched, Failed>)
     requires { IsHeld Held.Begun feed.old }
     ensures held { IsHeld result.0 feed.new }
+    ensures ahead { LiesAhead result.0 buffer.new }
     ensures limit { feed.new.limit ≡ feed.old.limit }
     ensures lines { Fetches
         (state_of Held.Begun feed.old buffer.old) (state_of result.0 feed.new buffer.new)

@@ -1,6 +1,6 @@
 //! Bytes read ahead.
 
-ghost use Rattle.std.specs.Prelude.{◌≡◌, ◌≤◌, [], IfOk, drop, length};
+ghost use Rattle.std.specs.Prelude.{◌≡◌, ◌+◌, ◌<◌, ◌≤◌, [], IfOk, drop, length};
 ghost use Rattle.std.specs.Io.KnownBytes.{prepend_known};
 ghost use Rattle.pc_base.specs.Stream.{HasCause};
 ghost use Rattle.pc_wire.specs.Reader.{TakesFront};
@@ -76,5 +76,14 @@ impl ReadBuffer {
         ensures { self.new ≡ drop count self.old }
     {
         self.start += count;
+    }
+
+    /// Lets the first bytes go, up to the one at this place and with it.
+    pub fn skip_past(&mut self, place: usize)
+        requires { place < length self.old }
+        ensures { self.new ≡ drop (place + 1) self.old }
+    {
+        self.start += place;
+        self.start += 1;
     }
 }

@@ -1,4 +1,5 @@
 pub mod Adding
+pub mod AskedCalls
 pub mod AskLines
 pub mod Asking
 pub mod Chains

@@ -2,8 +2,9 @@
 use Rattle.std.specs.Prelude.{◌≡◌, ℕ, ◌<◌, ◌≤◌, ◌==◌, Bool, true, false, IsTrue, List, [], ◌∷◌, length, codes, Some}
 use Rattle.pc_base.specs.Name.{is_name, is_password}
 use Rattle.pc_wire.specs.Words.{words_of, after_word, without_spaces}
-use Rattle.pc_request.specs.Request.{IsRequest}
+use Rattle.pc_request.specs.Request.{Calls, IsRequest}
 use Rattle.pc_request.specs.Fault.{fault_of}
+use Rattle.pc_request.specs.declared.operation.Operation.{Operation}
 use Rattle.pc_world.specs.declared.event.Asked.{Asked}
 use Rattle.pc_world.specs.declared.event.Asked.TheVariants.{TooLong, Faulty, Read}
 use Rattle.pc_world.specs.declared.event.Event.{Event}
@@ -26,6 +27,10 @@ abbrev pub IsAsked : List ℕ → Asked → Type 0
 IsAsked text TooLong = most_request < length text
 IsAsked text (Faulty fault) = (length text ≤ most_request) × (fault_of text ≡ Some fault)
 IsAsked text (Read request) = (length text ≤ most_request) × IsRequest request text
+
+-- a text that isn't too long, whose first word names the operation, and whose others are those of the words
+abbrev pub IsCall : Operation → List ℕ → List ℕ → Type 0
+IsCall operation words text = (length text ≤ most_request) × Calls operation (words_of words) (words_of text)
 
 -- what follows the first two words of a line and the spaces behind them
 abbrev pub text_asked : List ℕ → List ℕ

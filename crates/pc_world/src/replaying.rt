@@ -13,7 +13,7 @@ use crate::laws::{refused_once, refused_or_run};
 use crate::reading::{asking, read_event};
 use crate::turn::Turn;
 use crate::world::World;
-use pc_base::{Failed, Name, Sink, Source, write_all};
+use pc_base::{Failed, Sink, Source, write_all};
 use pc_wire::{Fetched, LineReader, Next};
 use std::alloc::Global;
 
@@ -180,9 +180,9 @@ fn play_line(alloc: Global, line: &[u8], world: &mut World, text: &mut Vec<u8>) 
     ensures { PlaysLine world.old world.new text.old.items text.new.items line.now result }
 {
     // Most lines are what a user asks who is there, and are played without an event.
-    if let Some((word, words)) = asking(line) {
-        if let Some(user) = world.user_named(word) {
-            return play_asked(alloc, &user, words, world, text);
+    if let Some((user, words)) = asking(line) {
+        if world.is_user(user) {
+            return play_asked(alloc, user, words, world, text);
         }
     }
     play_event(alloc, line, world, text)
@@ -191,7 +191,7 @@ fn play_line(alloc: Global, line: &[u8], world: &mut World, text: &mut Vec<u8>) 
 /// Plays what a user asks with these words, who is there.
 fn play_asked(
     alloc: Global,
-    user: &Name,
+    user: &[u8],
     words: &[u8],
     world: &mut World,
     text: &mut Vec<u8>,

@@ -1,6 +1,6 @@
 //! The repository of one thread: what it replies in a session without client.
 
-ghost use Rattle.std.specs.Prelude.{◌≡◌, ◌++◌, OnOk, OnErr};
+ghost use Rattle.std.specs.Prelude.{◌≡◌, ℕ, ◌≤◌, ◌++◌, List, length, OnOk, OnErr};
 ghost use Rattle.std.specs.Option.{option_to_list};
 ghost use Rattle.pc_base.specs.Refusal.{head_of};
 ghost use Rattle.pc_history.specs.History.{known};
@@ -10,7 +10,8 @@ ghost use Rattle.pc_account.specs.Plan.{IsWish, planned};
 ghost use Rattle.pc_account.specs.declared.answer.Question.TheVariants as question;
 ghost use Rattle.pc_account.specs.declared.wish.Wish.TheVariants as wish;
 ghost use Rattle.pc_world.specs.Account.{history_of};
-ghost use Rattle.pc_world.specs.Events.{IsAsked};
+ghost use Rattle.pc_request.specs.declared.operation.Operation.TheVariants as operation;
+ghost use Rattle.pc_world.specs.Events.{IsAsked, IsCall};
 ghost use Rattle.pc_world.specs.declared.event.Asked.{Asked as AskedValue};
 ghost use Rattle.pc_world.specs.Repository.{fault_head, reply_to_answer, reply_to_plan, refused, reply_to, reply_to_request};
 ghost use Rattle.pc_world.specs.Steps.{printed_reply};
@@ -21,14 +22,14 @@ use crate::transcript::Transcript;
 use crate::user::User;
 use pc_account::{Answer, AskFault, Question, Wish};
 use pc_base::{Memory, Name, Refusal};
-use pc_request::{Request, RequestFault};
+use pc_request::{Operation, Request, RequestFault, no_arguments, one_name};
 use std::alloc::Global;
 
 /// Prints the reply to what a user asks, and keeps its entry. After `Err` the user isn't used again.
 pub(crate) fn answer<T: Transcript>(
     alloc: Global,
     user: &mut User,
-    name: &Name,
+    name: &[u8],
     asked: &Asked,
     transcript: &mut T,
 ) -> Result<(), Memory>
@@ -49,7 +50,7 @@ pub(crate) fn answer<T: Transcript>(
 pub(crate) fn answer_text<T: Transcript>(
     alloc: Global,
     user: &mut User,
-    name: &Name,
+    name: &[u8],
     text: &[u8],
     transcript: &mut T,
 ) -> Result<(), Memory>
@@ -62,9 +63,78 @@ pub(crate) fn answer_text<T: Transcript>(
     if text.len() > MOST_REQUEST {
         return refuse(alloc, name, &Refusal::LineTooLong, transcript);
     }
+    let Some((operation, words)) = Operation::called(text) else {
+        return refuse(alloc, name, &Refusal::UnknownOperation, transcript);
+    };
+    match operation {
+        Operation::CreateMailbox => answer_create_mailbox(alloc, user, name, words, transcript),
+        Operation::ListMailboxes => answer_list_mailboxes(alloc, user, name, words, transcript),
+        _ => answer_read(alloc, user, name, text, transcript),
+    }
+}
+
+/// Replies to a text, read as a request whatever it asks for. Out of line, so that what is answered
+/// without it doesn't pay for the room of any request.
+#[inline(never)]
+fn answer_read<T: Transcript>(
+    alloc: Global,
+    user: &mut User,
+    name: &[u8],
+    text: &[u8],
+    transcript: &mut T,
+) -> Result<(), Memory>
+    requires { length text.now ≤ 512 }
+    ensures asked { (asked : AskedValue) × (IsAsked text.now asked
+        × OnOk result (T.adds transcript.old (printed_reply name.now (reply_to (history_of user.old.entries) asked)) transcript.new)
+        × OnOk result (user.new.entries ≡ user.old.entries ++ option_to_list (reply_to (history_of user.old.entries) asked).entry)) }
+    ensures user { user.new.user ≡ user.old.user }
+    ensures err { OnErr result (T.keeps transcript.old transcript.new) }
+{
     let read = Request::read(text);
     match &read {
         Ok(request) => answer_request(alloc, user, name, request, transcript),
+        Err(fault) => refuse(alloc, name, &refusal_of(fault), transcript),
+    }
+}
+
+/// Replies to a call that is to make a mailbox, with these words as its arguments.
+fn answer_create_mailbox<T: Transcript>(
+    alloc: Global,
+    user: &mut User,
+    name: &[u8],
+    words: &[u8],
+    transcript: &mut T,
+) -> Result<(), Memory>
+    ensures asked { (asked : AskedValue) × (((text : List ℕ) → IsCall operation.CreateMailbox words.now text → IsAsked text asked)
+        × OnOk result (T.adds transcript.old (printed_reply name.now (reply_to (history_of user.old.entries) asked)) transcript.new)
+        × OnOk result (user.new.entries ≡ user.old.entries ++ option_to_list (reply_to (history_of user.old.entries) asked).entry)) }
+    ensures user { user.new.user ≡ user.old.user }
+    ensures err { OnErr result (T.keeps transcript.old transcript.new) }
+{
+    let read = one_name(words);
+    match &read {
+        Ok(mailbox) => create_mailbox(alloc, user, name, mailbox, transcript),
+        Err(fault) => refuse(alloc, name, &refusal_of(fault), transcript),
+    }
+}
+
+/// Replies to a call for the list of mailboxes, with these words as its arguments.
+fn answer_list_mailboxes<T: Transcript>(
+    alloc: Global,
+    user: &mut User,
+    name: &[u8],
+    words: &[u8],
+    transcript: &mut T,
+) -> Result<(), Memory>
+    ensures asked { (asked : AskedValue) × (((text : List ℕ) → IsCall operation.ListMailboxes words.now text → IsAsked text asked)
+        × OnOk result (T.adds transcript.old (printed_reply name.now (reply_to (history_of user.old.entries) asked)) transcript.new)
+        × OnOk result (user.new.entries ≡ user.old.entries ++ option_to_list (reply_to (history_of user.old.entries) asked).entry)) }
+    ensures user { user.new.user ≡ user.old.user }
+    ensures err { OnErr result (T.keeps transcript.old transcript.new) }
+{
+    let read = no_arguments(words);
+    match &read {
+        Ok(()) => list_mailboxes(alloc, user, name, transcript),
         Err(fault) => refuse(alloc, name, &refusal_of(fault), transcript),
     }
 }
@@ -73,7 +143,7 @@ pub(crate) fn answer_text<T: Transcript>(
 fn answer_request<T: Transcript>(
     alloc: Global,
     user: &mut User,
-    name: &Name,
+    name: &[u8],
     request: &Request,
     transcript: &mut T,
 ) -> Result<(), Memory>
@@ -95,7 +165,7 @@ fn answer_request<T: Transcript>(
 fn create_mailbox<T: Transcript>(
     alloc: Global,
     user: &mut User,
-    name: &Name,
+    name: &[u8],
     mailbox: &Name,
     transcript: &mut T,
 ) -> Result<(), Memory>
@@ -115,7 +185,7 @@ fn create_mailbox<T: Transcript>(
 fn make_mailbox<T: Transcript>(
     alloc: Global,
     user: &mut User,
-    name: &Name,
+    name: &[u8],
     mailbox: &Name,
     transcript: &mut T,
 ) -> Result<(), Memory>
@@ -132,7 +202,7 @@ fn make_mailbox<T: Transcript>(
 fn change<T: Transcript>(
     alloc: Global,
     user: &mut User,
-    name: &Name,
+    name: &[u8],
     wish: &Wish,
     transcript: &mut T,
 ) -> Result<(), Memory>
@@ -154,7 +224,7 @@ fn change<T: Transcript>(
 fn list_mailboxes<T: Transcript>(
     alloc: Global,
     user: &User,
-    name: &Name,
+    name: &[u8],
     transcript: &mut T,
 ) -> Result<(), Memory>
     ensures ok { OnOk result (T.adds transcript.old (printed_reply name.now (reply_to_answer (answered (known (history_of user.now.entries)) question.Mailboxes))) transcript.new) }
@@ -166,9 +236,11 @@ fn list_mailboxes<T: Transcript>(
     transcript.print_reply(alloc, name, b"201 List follows", rows.as_slice())
 }
 
+/// Replies with a refusal. A head that is fixed is printed as it stands.
+#[inline]
 fn refuse<T: Transcript>(
     alloc: Global,
-    user: &Name,
+    user: &[u8],
     refusal: &Refusal,
     transcript: &mut T,
 ) -> Result<(), Memory>
@@ -177,11 +249,24 @@ fn refuse<T: Transcript>(
 {
     match refusal.fixed_head() {
         Some(head) => transcript.print_reply(alloc, user, head, &[]),
-        None => {
-            let head = refusal.head();
-            transcript.print_reply(alloc, user, head.bytes(), &[])
-        }
+        None => refuse_with_more(alloc, user, refusal, transcript),
     }
+}
+
+/// Replies with a refusal, whose head is made for it. Out of line, so that others don't pay for the
+/// room of a head.
+#[inline(never)]
+fn refuse_with_more<T: Transcript>(
+    alloc: Global,
+    user: &[u8],
+    refusal: &Refusal,
+    transcript: &mut T,
+) -> Result<(), Memory>
+    ensures ok { OnOk result (T.adds transcript.old (printed_reply user.now (refused (head_of refusal.now))) transcript.new) }
+    ensures err { OnErr result (T.keeps transcript.old transcript.new) }
+{
+    let head = refusal.head();
+    transcript.print_reply(alloc, user, head.bytes(), &[])
 }
 
 fn refusal_of(fault: &RequestFault) -> Refusal

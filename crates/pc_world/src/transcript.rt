@@ -1,6 +1,6 @@
 //! Where events print.
 
-ghost use Rattle.std.specs.Prelude.{⊤, ◌≡◌, ℕ, List, [], ◌∷◌, ◌++◌, map, codes, length, take, OnOk, OnErr};
+ghost use Rattle.std.specs.Prelude.{⊤, ◌≡◌, ℕ, List, [], ◌∷◌, ◌++◌, map, codes, decimal, length, take, OnOk, OnErr};
 ghost use Rattle.std.proofs.Common.{sym, append-nil};
 ghost use Rattle.std.proofs.Math.Seq.{take-length};
 ghost use Rattle.pc_world.specs.Replay.{Adds};
@@ -30,7 +30,7 @@ pub(crate) trait Transcript {
     fn print_reply(
         &mut self,
         alloc: Global,
-        user: &Name,
+        user: &[u8],
         head: &[u8],
         rows: &[MailboxRow],
     ) -> Result<(), Memory>
@@ -62,7 +62,7 @@ impl Transcript for Printed {
     fn print_reply(
         &mut self,
         alloc: Global,
-        user: &Name,
+        user: &[u8],
         head: &[u8],
         rows: &[MailboxRow],
     ) -> Result<(), Memory> {
@@ -104,7 +104,7 @@ impl Transcript for Vec<u8> {
     fn print_reply(
         &mut self,
         _alloc: Global,
-        user: &Name,
+        user: &[u8],
         head: &[u8],
         rows: &[MailboxRow],
     ) -> Result<(), Memory> {
@@ -146,11 +146,11 @@ fn append_user(text: &mut Vec<u8>, name: &Name) -> Result<(), Memory>
 }
 
 /// Puts the first line of a reply behind the text.
-fn append_head(text: &mut Vec<u8>, user: &Name, head: &[u8]) -> Result<(), Memory>
+fn append_head(text: &mut Vec<u8>, user: &[u8], head: &[u8]) -> Result<(), Memory>
     ensures { Adds text.old.items text.new.items (codes "ask " ++ user.now ++ codes ": " ++ head.now) result }
 {
     text.extend_from_slice(b"ask ")?;
-    text.extend_from_slice(user.bytes())?;
+    text.extend_from_slice(user)?;
     text.extend_from_slice(b": ")?;
     text.extend_from_slice(head)?;
     Ok(())
@@ -160,12 +160,36 @@ fn append_head(text: &mut Vec<u8>, user: &Name, head: &[u8]) -> Result<(), Memor
 fn append_row(text: &mut Vec<u8>, row: &MailboxRow) -> Result<(), Memory>
     ensures { Adds text.old.items text.new.items (indented (mailbox_line row.now)) result }
 {
-    let mut digits = Buffer::new();
     text.extend_from_slice(b"  ")?;
     text.extend_from_slice(row.name.bytes())?;
+    append_numbers(text, row.live, row.highest)?;
+    Ok(())
+}
+
+/// Puts two numbers behind the text, each behind a space. Most numbers in a list have one digit.
+#[inline]
+#[tactic(auto, using(std::proofs::lemmas::Fmt::decimal_digit))]
+fn append_numbers(text: &mut Vec<u8>, first: u32, second: u32) -> Result<(), Memory>
+    ensures { Adds text.old.items text.new.items (codes " " ++ decimal first ++ codes " " ++ decimal second) result }
+{
+    if first < 10 {
+        if second < 10 {
+            let digits = [b' ', b'0' + first as u8, b' ', b'0' + second as u8];
+            text.extend_from_slice(&digits)?;
+            return Ok(());
+        }
+    }
+    append_digits(text, first)?;
+    append_digits(text, second)
+}
+
+/// Puts a space and the digits of a number behind the text.
+#[inline(never)]
+fn append_digits(text: &mut Vec<u8>, number: u32) -> Result<(), Memory>
+    ensures { Adds text.old.items text.new.items (codes " " ++ decimal number) result }
+{
+    let mut digits = Buffer::new();
     text.extend_from_slice(b" ")?;
-    text.extend_from_slice(digits.format(row.live).as_bytes())?;
-    text.extend_from_slice(b" ")?;
-    text.extend_from_slice(digits.format(row.highest).as_bytes())?;
+    text.extend_from_slice(digits.format(number).as_bytes())?;
     Ok(())
 }

@@ -89,18 +89,18 @@ impl World {
         }
     }
 
-    /// The user whose name this word is.
-    pub(crate) fn user_named(&self, word: &[u8]) -> Option<Name>
-        ensures { IfSome result (λ name. (name ≡ word.now) × IsTrue (is_name name) × IsTrue (is_some (entries_of self.now name))) }
+    /// Whether this word is the name of a user.
+    pub(crate) fn is_user(&self, word: &[u8]) -> bool
+        ensures { IsTrue result → IsTrue (is_name word.now) × IsTrue (is_some (entries_of self.now word.now)) }
     {
         let Some(user) = &self.user else {
-            return None;
+            return false;
         };
         let name = user.name();
         if name.bytes() != word {
-            return None;
+            return false;
         }
-        Some(*name)
+        true
     }
 
     fn enrol<T: Transcript>(
@@ -135,14 +135,14 @@ impl World {
         let Some(user) = &mut self.user else {
             unreachable!();
         };
-        answer(alloc, user, name, asked, transcript)
+        answer(alloc, user, name.bytes(), asked, transcript)
     }
 
     /// Plays what a user asks with a text, who is there. After `Err` the world isn't used again.
     pub(crate) fn ask_text<T: Transcript>(
         &mut self,
         alloc: Global,
-        name: &Name,
+        name: &[u8],
         text: &[u8],
         transcript: &mut T,
     ) -> Result<(), Memory>

@@ -22,6 +22,7 @@ returns-in_default-last g c =
     let some = shown_last c.seek_feed.new.feed c.last.result c.last.ensures c.in_default-last.not-More in
     record {
       held = some;
+      ahead = tt;
       limit = TakesOpen-limit _ _ _ _ _ sought.0;
       lines = Fetches-last c.args.feed.now c.seek_feed.new.feed c.args.buffer.now c.seek_feed.new.buffer (g.S.Source.left c.args.source.now) (g.S.Source.left c.seek_feed.new.source) sought some.1;
       front = e.front;

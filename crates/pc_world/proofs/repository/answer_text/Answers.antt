@@ -1,11 +1,8 @@
 use Rattle.std.proofs.Common.{rules}
-use Rattle.pc_world.specs.declared.event.Asked.TheVariants.{Faulty, Read}
+use Rattle.pc_request.specs.declared.request.RequestFault.TheVariants.{Unknown}
+use Rattle.pc_world.specs.declared.event.Asked.TheVariants.{Faulty}
 use Rattle.pc_world.proofs.repository.answer_text.Goals as goal
 
-pub returns-in-Ok-clause-asked : goal.returns-in-Ok-clause-asked
-returns-in-Ok-clause-asked g c =
-    (Read c.in-Ok.request, ((c.if-text-gt-MOST_REQUEST.false, rw c.in-Ok.is at c.read-read.ensures.request), c.answer_request.ensures.prints, c.answer_request.ensures.entry))
-
-pub returns-in-Err-clause-asked : goal.returns-in-Err-clause-asked
-returns-in-Err-clause-asked g c =
-    (Faulty c.in-Err.fault, ((c.if-text-gt-MOST_REQUEST.false, rw c.in-Err.is at c.read-read.ensures.fault), search rules, search rules))
+pub returns-in_default-clause-asked : goal.returns-in_default-clause-asked
+returns-in_default-clause-asked g c =
+    (Faulty Unknown, ((c.if-text-gt-MOST_REQUEST.false, c.in_default.ensures {u = tt}), search rules, search rules))

@@ -1,0 +1,22 @@
+use Rattle.std.proofs.Common.{rules}
+use Rattle.pc_request.specs.Fault.{kinds_of}
+use Rattle.pc_request.specs.Request.{call_of}
+use Rattle.pc_request.specs.declared.operation.Operation.TheVariants as operation
+use Rattle.pc_request.specs.declared.request.Request.TheVariants as request
+use Rattle.pc_world.specs.Repository.{reply_to_request}
+use Rattle.pc_world.specs.declared.event.Asked.TheVariants.{Faulty, Read}
+use Rattle.pc_world.proofs.AskedCalls.{IsAsked-read, IsAsked-faulty}
+use Rattle.pc_world.proofs.repository.answer_create_mailbox.Goals as goal
+
+pub returns-in-Ok-clause-asked : goal.returns-in-Ok-clause-asked
+unfolding call_of reply_to_request
+returns-in-Ok-clause-asked g c =
+    let read = rw c.in-Ok.is at c.one_name-read.ensures in
+    let asks = request.CreateMailbox c.in-Ok.mailbox in
+    (Read asks, ((λ text call. IsAsked-read asks c.args.words.now text read.0 call), c.create_mailbox.ensures.prints, c.create_mailbox.ensures.entry))
+
+pub returns-in-Err-clause-asked : goal.returns-in-Err-clause-asked
+unfolding kinds_of
+returns-in-Err-clause-asked g c =
+    let faulty = rw c.in-Err.is at c.one_name-read.ensures in
+    (Faulty c.in-Err.fault, ((λ text call. IsAsked-faulty operation.CreateMailbox c.in-Err.fault c.args.words.now text faulty call), search rules, search rules))
