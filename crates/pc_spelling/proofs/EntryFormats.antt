@@ -1,5 +1,5 @@
 -- The formats of entries are the entries that fit.
-use Rattle.std.proofs.Common.{replicate, ◌≡◌, ℕ, zero, suc, ◌+◌, ◌-◌, ◌*◌, ◌^◌, ◌<◌, ◌≤◌, ◌&&◌, Bool, true, false, cond, eqb, nat_lt, nat_le, List, [], ◌∷◌, ◌++◌, length, map, IsTrue, refl, sym, ap, subst, ◌∙◌, append_assoc, arith, inl, inr}
+use Rattle.std.proofs.Common.{replicate, ◌≡◌, ℕ, zero, suc, ◌+◌, ◌-◌, ◌*◌, ◌<◌, ◌≤◌, ◌&&◌, Bool, true, false, cond, eqb, nat_lt, nat_le, List, [], ◌∷◌, ◌++◌, length, map, IsTrue, refl, sym, ap, subst, ◌∙◌, arith}
 use Rattle.std.specs.List.{list_all, flat_map}
 use Rattle.std.proofs.lemmas.Bool.{and_from, and_parts, ltb-true, leb-true, le-leb, lt-ltb, eqb-true, eqb-false}
 use Rattle.std.proofs.lemmas.List.{append-nil}
@@ -12,9 +12,9 @@ use Rattle.pc_history.specs.Entry.{tag_of}
 use Rattle.pc_spelling.specs.Spelling.{u8_field, name_field, u16_field, u32_field, u64_field, line_field, message_fields, letter_fields, parts_of, fields_of}
 use Rattle.pc_spelling.specs.EntryForm.{is_u32, is_message, is_letter, entry_fits}
 use Rattle.pc_spelling.specs.Fields.{within}
-use Rattle.pc_spelling.specs.Format.{Format, ends, goes, bind, repeated}
+use Rattle.pc_spelling.specs.Format.{Format, ends, bind, repeated}
 use Rattle.pc_spelling.specs.EntryFormat.{lines_format, message_format, letter_format, uid_format, named_format, flag_format, copy_format, reset_mailbox_format, forget_format, pull_format, password_format, mark_format, parts_format, entry_format}
-use Rattle.pc_spelling.proofs.Formats.{ReadsAs, ReadBoth, reads_bind, bind_reads, IsOpen, open_bind, open_repeated}
+use Rattle.pc_spelling.proofs.Formats.{ReadsAs, reads_bind, bind_reads, IsOpen, open_bind, open_repeated}
 
 -- the bytes of all lines
 abbrev texts : List (List ℕ) → ℕ

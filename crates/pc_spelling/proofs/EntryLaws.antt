@@ -1,5 +1,5 @@
 -- The laws of the bytes of entries.
-use Rattle.std.proofs.Common.{◌≡◌, ℕ, suc, ◌+◌, ◌*◌, ◌<◌, ◌≤◌, ◌&&◌, Bool, nat_lt, nat_le, List, [], ◌∷◌, ◌++◌, length, map, IsTrue, refl, sym, ap, ◌∙◌, arith}
+use Rattle.std.proofs.Common.{◌≡◌, ℕ, ◌+◌, ◌*◌, ◌≤◌, ◌&&◌, nat_lt, nat_le, List, [], ◌∷◌, ◌++◌, length, map, IsTrue, refl, ap, arith}
 use Rattle.std.specs.List.{concat, flat_map, list_all}
 use Rattle.std.proofs.lemmas.Bool.{and_parts, ltb-true, leb-true, eqb-true}
 use Rattle.std.proofs.lemmas.List.{length-append}
@@ -9,7 +9,7 @@ use Rattle.pc_message.specs.Message.{size_of}
 use Rattle.pc_history.specs.declared.entry.Entry.{Entry}
 use Rattle.pc_history.specs.declared.entry.Entry.TheVariants.{MakeMailbox, DropMailbox, Flag, Expunge, Copy, MakeClient, DropClient, ResetClient, ResetMailbox, Forget, Pull, Password, Subscribe, Unsubscribe, Mark}
 use Rattle.pc_spelling.specs.Spelling.{u8_field, bool_field, u16_field, u32_field, u64_field, name_field, line_field, message_fields, letter_fields, parts_of, fields_of, spelled_entry}
-use Rattle.pc_spelling.specs.EntryForm.{is_u32, is_message, is_letter, entry_fits, IsEntry, IsEntryFault}
+use Rattle.pc_spelling.specs.EntryForm.{is_u32, is_message, is_letter, entry_fits, IsEntry}
 use Rattle.pc_spelling.specs.EntryFormat.{entry_format}
 use Rattle.pc_spelling.specs.Laws.{OneEntry, EntryIsRead, OneEntryFault, most_bytes, forgotten, EntryLength, EntryIsShort}
 use Rattle.pc_spelling.proofs.Loops.{concat-append}

@@ -1,16 +1,15 @@
 -- What reading an entry says of its bytes.
-use Rattle.std.proofs.Common.{◌≡◌, ℕ, ◌+◌, ◌-◌, ◌<◌, ◌≤◌, List, [], ◌∷◌, ◌++◌, length, IsTrue, Result, Ok, Err, refl, sym, ap, subst, ◌∙◌, append_assoc, arith}
+use Rattle.std.proofs.Common.{◌≡◌, ℕ, ◌-◌, ◌<◌, ◌≤◌, List, [], ◌∷◌, ◌++◌, length, IsTrue, Result, Ok, Err, sym, ap, subst, ◌∙◌, append_assoc, arith}
 use Rattle.std.specs.List.{concat}
 use Rattle.std.proofs.lemmas.List.{append-nil, length-append, nil_from_length}
 use Rattle.pc_history.specs.declared.entry.Entry.{Entry}
-use Rattle.pc_spelling.specs.Spelling.{fields_of, spelled_entry}
+use Rattle.pc_spelling.specs.Spelling.{spelled_entry}
 use Rattle.pc_spelling.specs.EntryForm.{entry_fits, IsEntry, IsEntryFault}
-use Rattle.pc_spelling.specs.Fault.{GoesOn, IsFirstFault}
-use Rattle.pc_spelling.specs.Format.{Format, Took, Reads}
+use Rattle.pc_spelling.specs.Format.{Reads}
 use Rattle.pc_spelling.specs.EntryFormat.{entry_format}
 use Rattle.pc_spelling.specs.declared.spelling.cursor.Halt.{Halt}
 use Rattle.pc_spelling.specs.declared.spelling.cursor.Halt.TheVariants.{NoField}
-use Rattle.pc_spelling.proofs.Formats.{ReadsAs, Whole, Read, took_fields, Stops, stuck_stops, ends_there}
+use Rattle.pc_spelling.proofs.Formats.{ReadsAs, Whole, took_fields, stuck_stops, ends_there}
 use Rattle.pc_spelling.proofs.EntryFormats.{entry_reads, reads_entry, entry_open}
 
 pub to_entry : (fields : List (List ℕ)) → Whole entry_format fields → IsEntry fields

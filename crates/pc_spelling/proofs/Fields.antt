@@ -1,12 +1,12 @@
 -- What stands at the front of bytes.
-use Rattle.std.proofs.Common.{◌≡◌, ℕ, zero, suc, ◌+◌, ◌-◌, ◌^◌, ◌<◌, ◌≤◌, ◌&&◌, not, Bool, true, false, cond, ltb, leb, nat_lt, nat_le, List, [], ◌∷◌, ◌++◌, length, get_or, take, drop, Option, Some, None, IsTrue, refl, sym, ap, subst, ◌∙◌, append_assoc, arith, inl, inr}
+use Rattle.std.proofs.Common.{◌≡◌, ℕ, ◌+◌, ◌-◌, ◌<◌, ◌≤◌, not, Bool, true, false, cond, ltb, nat_le, List, ◌++◌, length, get_or, take, drop, Option, Some, None, IsTrue, refl, sym, ap, subst, ◌∙◌, append_assoc, arith, inl, inr}
 use Rattle.std.specs.Int.{Width, w16, w32, w64, byte_len, from_be_bytes, to_be_bytes}
 use Rattle.std.proofs.lemmas.Bool.{both_ways, not-true, eq-eqb, cases_lt, ltb-true, ltb-false, lt-ltb, leb-true, and_parts}
-use Rattle.std.proofs.lemmas.List.{take_rest, drop-drop, length-drop, take_at, drop_at, take-append-drop, length-append, length-take, get_or-take, get_or_past, append_cancel_left}
+use Rattle.std.proofs.lemmas.List.{take_rest, drop-drop, length-drop, take_at, drop_at, take-append-drop, length-append, length-take, get_or-take, get_or_past}
 use Rattle.std.proofs.lemmas.Nat.{be_bytes_2, be_bytes_4, be_bytes_8, from_be_bytes-to_be_bytes_2, from_be_bytes-to_be_bytes_4, from_be_bytes-to_be_bytes_8}
 use Rattle.pc_base.specs.Line.{is_line, has_feed}
 use Rattle.pc_spelling.specs.Spelling.{u16_field, u32_field, u64_field, line_field}
-use Rattle.pc_spelling.specs.Fields.{u16_kind, u32_kind, u64_kind, line_kind, digest_kind, any, within, has_room, Takes, NoneIsAt, number_at}
+use Rattle.pc_spelling.specs.Fields.{u16_kind, u32_kind, u64_kind, line_kind, digest_kind, any, has_room, Takes, NoneIsAt, number_at}
 
 abbrev pub IsBytes : List ℕ → Type 0
 IsBytes bytes = (i : ℕ) → get_or bytes i 0 < 256

@@ -1,10 +1,9 @@
 -- Reading part after part: whatever the rest of a format gives, the whole gives.
 use Rattle.std.proofs.Common.{◌≡◌, ℕ, Bool, List, Result, Ok, Err, refl, sym, subst}
-use Rattle.std.specs.Result.{IsErr, IsErrAnd}
-use Rattle.pc_spelling.specs.Fields.{Kind, Held}
+use Rattle.pc_spelling.specs.Fields.{Kind, Held, FieldReads}
 use Rattle.pc_spelling.specs.Format.{Format, ends, goes, bind, Reads}
 use Rattle.pc_spelling.specs.declared.spelling.cursor.Halt.{Halt}
-use Rattle.pc_spelling.proofs.Formats.{after_part, no_part}
+use Rattle.pc_spelling.proofs.Formats.{after_field, no_field, after_part, no_part}
 
 pub record Follows {X : Type 0} (whole left : Format X) (start now : List ℕ) : Type 0 where
   pub on : (new : List ℕ) (rest : Result X Halt) → Reads left now new rest → Reads whole start new rest
@@ -17,6 +16,16 @@ pub follows_part : {X Y : Type 0} (whole left : Format X) (part : Format Y) (nex
 follows_part whole left part next start now mid y before is reads = record {
   on = λ new rest more. before.on new rest (subst (λ f. Reads f now new rest) (sym is) (after_part next reads more));
 }
+
+-- one field more was read
+pub follows_field : {X : Type 0} {whole left : Format X} {start now mid : List ℕ} (kind : Kind) (test : Held kind → Bool) (format : Held kind → Format X) (value : Held kind) → Follows whole left start now → left ≡ goes kind test format → FieldReads kind test now mid (Ok value) → Follows whole (format value) start mid
+follows_field {now = now} kind test format value before is reads = record {
+  on = λ new rest more. before.on new rest (subst (λ f. Reads f now new rest) (sym is) (after_field {format = format} reads more));
+}
+
+-- reading stopped at a field
+pub follows_no_field : {X : Type 0} {whole left : Format X} {start now new : List ℕ} (kind : Kind) (test : Held kind → Bool) (format : Held kind → Format X) (halt : Halt) → Follows whole left start now → left ≡ goes kind test format → FieldReads kind test now new (Err halt) → Reads whole start new (Err halt)
+follows_no_field {now = now} {new = new} kind test format halt before is none = before.on new (Err halt) (subst (λ f. Reads f now new (Err halt)) (sym is) (no_field {format = format} {halt = halt} none (refl, refl)))
 
 -- reading stopped in a part
 pub follows_halt : {X Y : Type 0} (whole left : Format X) (part : Format Y) (next : Y → Format X) (start now new : List ℕ) (halt : Halt) → Follows whole left start now → left ≡ bind part next → Reads part now new (Err halt) → Reads whole start new (Err halt)

@@ -1,10 +1,10 @@
 -- Reading by a format: what was read, where it stops, and that both are one.
-use Rattle.std.proofs.Common.{◌≡◌, ℕ, zero, suc, ◌+◌, ◌<◌, ◌≤◌, Bool, true, false, List, [], ◌∷◌, ◌++◌, length, IsTrue, Result, Ok, Err, ◌⊎◌, refl, sym, ap, subst, ◌∙◌, append_assoc, arith, inl, inr}
+use Rattle.std.proofs.Common.{◌≡◌, ℕ, zero, suc, Bool, List, [], ◌∷◌, ◌++◌, length, IsTrue, Result, Ok, Err, refl, sym, ap, subst, ◌∙◌, append_assoc, arith, inl, inr}
 use Rattle.std.specs.List.{concat}
 use Rattle.std.specs.Result.{IsErr, IsErrAnd}
 use Rattle.std.proofs.lemmas.List.{append-nil, append_cancel_left, length-append, nil_from_length}
 use Rattle.pc_spelling.specs.Fault.{GoesOn, IsFirstFault}
-use Rattle.pc_spelling.specs.Fields.{Kind, Held, fits, field_of, Takes, NoneIsAt, FieldOutcome, FieldReads}
+use Rattle.pc_spelling.specs.Fields.{Kind, Held, fits, field_of, Takes, FieldOutcome, FieldReads}
 use Rattle.pc_spelling.specs.Format.{Format, ends, goes, bind, repeated, Took, Stuck, Outcome, Reads}
 use Rattle.pc_spelling.specs.declared.spelling.cursor.Halt.{Halt}
 use Rattle.pc_spelling.specs.declared.spelling.cursor.Halt.TheVariants.{NoField, Memory}

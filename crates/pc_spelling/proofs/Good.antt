@@ -1,7 +1,7 @@
 -- What a format gives: whatever was read before, some field goes on at each place, and at the end this holds of the fields and of what was read.
-use Rattle.std.proofs.Common.{◌≡◌, ℕ, Bool, List, [], ◌∷◌, ◌++◌, IsTrue, refl, sym, ap, subst, ◌∙◌, append_assoc}
+use Rattle.std.proofs.Common.{ℕ, List, [], ◌∷◌, ◌++◌, IsTrue, sym, ap, subst, ◌∙◌, append_assoc}
 use Rattle.std.proofs.lemmas.List.{append-nil}
-use Rattle.pc_spelling.specs.Fields.{Kind, Held, fits, field_of}
+use Rattle.pc_spelling.specs.Fields.{Held, fits, field_of}
 use Rattle.pc_spelling.specs.Format.{Format, ends, goes, bind}
 use Rattle.pc_spelling.proofs.Formats.{ReadsAs, IsOpen}
 

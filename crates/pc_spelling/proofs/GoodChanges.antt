@@ -1,6 +1,6 @@
 -- Update lists as they are read.
-use Rattle.std.proofs.Common.{◌≡◌, ℕ, zero, suc, ◌+◌, ◌<◌, ◌≤◌, ◌&&◌, ◌||◌, ◌==◌, nat_lt, nat_le, Bool, true, false, cond, not, ◌⊎◌, inl, inr, List, [], ◌∷◌, ◌++◌, length, IsTrue, refl, sym, ap, subst, ◌∙◌, append_assoc, arith, true≢false, length-append}
-use Rattle.std.specs.List.{filter, list_any, flat_map, AllByRecursion as Every}
+use Rattle.std.proofs.Common.{◌≡◌, ℕ, zero, suc, ◌+◌, ◌<◌, ◌≤◌, ◌&&◌, ◌||◌, ◌==◌, nat_lt, nat_le, Bool, true, false, cond, not, ◌⊎◌, inl, inr, List, [], ◌∷◌, ◌++◌, length, refl, sym, ap, subst, ◌∙◌, append_assoc, arith, true≢false, length-append}
+use Rattle.std.specs.List.{filter, flat_map, AllByRecursion as Every}
 use Rattle.std.proofs.lemmas.Bool.{ltb-true, ltb-false, leb-true, lt-ltb, le-leb, eqb-true, eq-eqb, and_parts, or_parts, not-true}
 use Rattle.std.proofs.lemmas.List.{append-nil}
 use Rattle.pc_history.specs.declared.kept.Listed.{Listed}
@@ -8,7 +8,7 @@ use Rattle.pc_history.specs.Legal.{Ordered, IsListedBefore, HasOtherUid, IsChang
 use Rattle.pc_history.proofs.Uids.{Every-weaker, Every-append}
 use Rattle.pc_history.proofs.Formed.{Ordered-push}
 use Rattle.pc_spelling.specs.Spelling.{listed_fields, u32_field, u64_field}
-use Rattle.pc_spelling.specs.Fields.{u32_kind, u64_kind, within}
+use Rattle.pc_spelling.specs.Fields.{within}
 use Rattle.pc_spelling.specs.RecordFormat.{last_number, least_stamp, above, is_listed, can_follow, changes_from}
 use Rattle.pc_spelling.proofs.Good.{Good}
 use Rattle.pc_spelling.proofs.Free.{free_uid}
@@ -82,7 +82,7 @@ above-push-self [] new = none (nat_lt new.uid new.uid) refl
     none false e = omega arith
 above-push-self (listed ∷ list) new = same-step (nat_lt new.uid listed.uid) listed (filter (λ (l : Listed). nat_lt new.uid l.uid) list) (filter (λ (l : Listed). nat_lt new.uid l.uid) (list ++ new ∷ [])) (above-push-self list new)
 
-not-listed : (uid : ℕ) (list : List Listed) → is_listed uid list ≡ false → Every (λ (listed : Listed). (listed.uid == uid) ≡ false) list
+pub not-listed : (uid : ℕ) (list : List Listed) → is_listed uid list ≡ false → Every (λ (listed : Listed). (listed.uid == uid) ≡ false) list
 not-listed uid [] e = tt
 not-listed uid (listed ∷ list) e = let parts = or_parts (listed.uid == uid) (is_listed uid list) e in (parts.0, not-listed uid list parts.1)
 
@@ -197,7 +197,7 @@ pub record IsReadList (highest birth count : ℕ) (front : List (List ℕ)) (fie
   pub is_list : IsUpdateList 9223372036854775808 highest birth list
   pub counted : length list ≡ count
 
-and-three : (a b c : Bool) → a ≡ true → b ≡ false → c ≡ true → (a && not b && c) ≡ true
+pub and-three : (a b c : Bool) → a ≡ true → b ≡ false → c ≡ true → (a && not b && c) ≡ true
 and-three true false true f g h = refl
 and-three true false false f g h = absurd (true≢false (sym h))
 and-three true true c f g h = absurd (true≢false g)

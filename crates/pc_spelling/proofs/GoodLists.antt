@@ -1,21 +1,21 @@
 -- The update lists of a mailbox as they are read.
-use Rattle.std.proofs.Common.{◌≡◌, ℕ, zero, suc, ◌+◌, ◌-◌, ◌<◌, ◌≤◌, ◌&&◌, nat_lt, nat_le, min, Bool, true, false, List, [], ◌∷◌, ◌++◌, length, IsTrue, refl, sym, ap, subst, ◌∙◌, append_assoc, arith}
+use Rattle.std.proofs.Common.{◌≡◌, ℕ, ◌-◌, ◌<◌, ◌≤◌, min, true, List, [], ◌∷◌, ◌++◌, length, refl, sym, ap, subst, ◌∙◌, append_assoc, arith}
 use Rattle.std.specs.List.{list_all, flat_map, AllByRecursion as Every}
-use Rattle.std.proofs.lemmas.Bool.{ltb-true, leb-true, lt-ltb, le-leb, and_parts}
+use Rattle.std.proofs.lemmas.Bool.{ltb-true, lt-ltb, and_parts}
 use Rattle.std.proofs.lemmas.List.{append-nil}
 use Rattle.pc_base.specs.Name.{is_name}
 use Rattle.pc_history.specs.declared.kept.Listed.{Listed}
-use Rattle.pc_history.specs.Table.{same, total}
-use Rattle.pc_history.specs.Legal.{IsChange, IsUpdateList, AreListsOf}
+use Rattle.pc_history.specs.Table.{total}
+use Rattle.pc_history.specs.Legal.{IsChange, AreListsOf}
 use Rattle.pc_history.proofs.Tables.{same-refl, same-true}
 use Rattle.pc_spelling.specs.Spelling.{name_field, u32_field, listed_fields, update_list_fields}
 use Rattle.pc_spelling.specs.Fields.{u32_kind, within}
-use Rattle.pc_spelling.specs.Format.{Format, goes, bind}
+use Rattle.pc_spelling.specs.Format.{goes, bind}
 use Rattle.pc_spelling.specs.EntryForm.{is_u32}
 use Rattle.pc_spelling.specs.RecordForm.{is_entry_number, client_fits, listed_fits, list_fits}
-use Rattle.pc_spelling.specs.RecordFormat.{last_number, changes_from, lists_from}
+use Rattle.pc_spelling.specs.RecordFormat.{changes_from, lists_from}
 use Rattle.pc_spelling.proofs.Good.{Good, good_bind, good_weaker}
-use Rattle.pc_spelling.proofs.GoodChanges.{IsReadList, AreChangesTo, good_changes, and-two}
+use Rattle.pc_spelling.proofs.GoodChanges.{IsReadList, good_changes, and-two}
 use Rattle.pc_spelling.proofs.GoodTables.{within-parts, is-within}
 
 abbrev pub Lists : Type 0

@@ -1,22 +1,22 @@
 -- Mailboxes as they are read.
-use Rattle.std.proofs.Common.{◌≡◌, ℕ, zero, suc, ◌+◌, ◌-◌, ◌*◌, ◌/◌, ◌<◌, ◌≤◌, ◌&&◌, ◌||◌, nat_lt, nat_le, min, Bool, true, false, cond, not, List, [], ◌∷◌, ◌++◌, length, IsTrue, refl, sym, ap, subst, ◌∙◌, append_assoc, arith, true≢false, length-append}
+use Rattle.std.proofs.Common.{◌≡◌, ℕ, zero, suc, ◌+◌, ◌-◌, ◌*◌, ◌/◌, ◌≤◌, ◌&&◌, ◌||◌, min, Bool, true, false, cond, not, List, [], ◌∷◌, ◌++◌, length, refl, sym, ap, subst, ◌∙◌, append_assoc, arith, true≢false, length-append}
 use Rattle.std.specs.List.{list_all, flat_map, AllByRecursion as Every}
 use Rattle.std.specs.Map.{keys_of}
-use Rattle.std.proofs.lemmas.Bool.{ltb-true, leb-true, lt-ltb, le-leb, and_parts}
+use Rattle.std.proofs.lemmas.Bool.{lt-ltb}
 use Rattle.std.proofs.lemmas.List.{append-nil}
 use Rattle.pc_base.specs.Name.{is_name}
 use Rattle.pc_message.specs.Message.{weight_of}
 use Rattle.pc_history.specs.declared.kept.Kept.{Kept}
 use Rattle.pc_history.specs.declared.kept.Listed.{Listed}
-use Rattle.pc_history.specs.declared.limits.TheConstants.{MOST_MESSAGES, MOST_WEIGHT, MOST_CHANGES, MOST_UIDS}
+use Rattle.pc_history.specs.declared.limits.TheConstants.{MOST_MESSAGES, MOST_WEIGHT, MOST_CHANGES}
 use Rattle.pc_history.specs.Table.{total}
 use Rattle.pc_history.specs.Record.{MailboxRecord}
 use Rattle.pc_history.specs.Legal.{AreDistinct, AreListsOf, IsMailbox}
 use Rattle.pc_history.proofs.Uids.{Every-append}
 use Rattle.pc_history.proofs.Numbers.{total-append}
 use Rattle.pc_spelling.specs.Spelling.{name_field, bool_field, u16_field, u32_field, kept_fields, update_list_fields, long_list, short_list, mailbox_fields}
-use Rattle.pc_spelling.specs.Fields.{bool_kind, u16_kind, u32_kind, within}
-use Rattle.pc_spelling.specs.Format.{Format, ends, goes, bind}
+use Rattle.pc_spelling.specs.Fields.{u16_kind, within}
+use Rattle.pc_spelling.specs.Format.{ends, goes, bind}
 use Rattle.pc_spelling.specs.EntryForm.{is_u32}
 use Rattle.pc_spelling.specs.RecordForm.{client_fits, kept_fits, list_fits, mailbox_fits}
 use Rattle.pc_spelling.specs.RecordFormat.{is_new, has_none, messages_from, lists_from, mailbox_format, weight_under, changes_under, mailboxes_from, mailboxes_format}
@@ -24,7 +24,7 @@ use Rattle.pc_spelling.proofs.Good.{Good, good_bind, good_weaker}
 use Rattle.pc_spelling.proofs.Free.{new_name}
 use Rattle.pc_spelling.proofs.GoodChanges.{and-two}
 use Rattle.pc_spelling.proofs.GoodTables.{distinct-push, keys-push, length-keys, all-push, within-parts, is-within}
-use Rattle.pc_spelling.proofs.GoodMessages.{AreMessagesTo, AreReadMessages, good_messages}
+use Rattle.pc_spelling.proofs.GoodMessages.{AreReadMessages, good_messages}
 use Rattle.pc_spelling.proofs.GoodLists.{AreReadLists, good_lists}
 
 abbrev pub weight_of_box : MailboxRecord → ℕ

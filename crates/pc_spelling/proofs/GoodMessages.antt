@@ -1,7 +1,7 @@
 -- Messages as they are read.
-use Rattle.std.proofs.Common.{◌≡◌, ℕ, zero, suc, ◌+◌, ◌-◌, ◌*◌, ◌/◌, ◌<◌, ◌≤◌, ◌&&◌, nat_lt, nat_le, min, Bool, true, false, List, [], ◌∷◌, ◌++◌, length, map, IsTrue, refl, sym, ap, subst, ◌∙◌, append_assoc, arith, length-append}
+use Rattle.std.proofs.Common.{◌≡◌, ℕ, zero, suc, ◌+◌, ◌-◌, ◌*◌, ◌/◌, ◌<◌, ◌≤◌, ◌&&◌, nat_lt, nat_le, min, true, List, [], ◌∷◌, ◌++◌, length, map, refl, sym, ap, subst, ◌∙◌, append_assoc, arith, length-append}
 use Rattle.std.specs.List.{list_all, flat_map, AllByRecursion as Every}
-use Rattle.std.proofs.lemmas.Bool.{ltb-true, leb-true, lt-ltb, le-leb, and_parts}
+use Rattle.std.proofs.lemmas.Bool.{leb-true, lt-ltb, le-leb}
 use Rattle.std.proofs.lemmas.List.{append-nil}
 use Rattle.pc_base.specs.Line.{is_line}
 use Rattle.pc_message.specs.Message.{size_of, weight_of}
@@ -12,8 +12,7 @@ use Rattle.pc_history.proofs.Uids.{Every-weaker, Every-append}
 use Rattle.pc_history.proofs.Formed.{Ordered-push}
 use Rattle.pc_history.proofs.Numbers.{total-append}
 use Rattle.pc_spelling.specs.Spelling.{line_field, u16_field, u32_field, message_fields, kept_fields}
-use Rattle.pc_spelling.specs.Fields.{within, has_room}
-use Rattle.pc_spelling.specs.Format.{ends, bind}
+use Rattle.pc_spelling.specs.Format.{ends}
 use Rattle.pc_spelling.specs.EntryForm.{is_message, is_u32}
 use Rattle.pc_spelling.specs.EntryFormat.{lines_format}
 use Rattle.pc_spelling.specs.RecordForm.{is_u16, kept_fits}

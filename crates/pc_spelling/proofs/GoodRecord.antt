@@ -1,9 +1,8 @@
 -- Records as they are read: at each field some record goes on, and at the end the fields are those of a record that can be saved.
-use Rattle.std.proofs.Common.{◌≡◌, ℕ, zero, suc, ◌+◌, ◌<◌, ◌≤◌, ◌&&◌, nat_lt, nat_le, Bool, true, false, cond, not, List, [], ◌∷◌, ◌++◌, length, Option, None, Some, IsTrue, refl, sym, ap, subst, ◌∙◌, append_assoc, arith, length-append}
-use Rattle.std.specs.List.{list_all, flat_map, AllByRecursion as Every}
+use Rattle.std.proofs.Common.{◌≡◌, ℕ, ◌+◌, ◌<◌, ◌≤◌, ◌&&◌, nat_lt, nat_le, Bool, true, false, cond, not, List, [], ◌∷◌, ◌++◌, length, Option, None, Some, IsTrue, refl, ap, ◌∙◌, append_assoc, arith, length-append}
+use Rattle.std.specs.List.{list_all, AllByRecursion as Every}
 use Rattle.std.specs.Map.{keys_of}
-use Rattle.std.proofs.lemmas.Bool.{ltb-true, leb-true, le-leb}
-use Rattle.std.proofs.lemmas.List.{append-nil}
+use Rattle.std.proofs.lemmas.Bool.{ltb-true, le-leb}
 use Rattle.pc_history.specs.declared.limits.TheConstants.{MOST_UIDS, MOST_MESSAGES, LAST_MAIL}
 use Rattle.pc_history.specs.Record.{MailboxRecord, AccountRecord, mailbox_of}
 use Rattle.pc_history.specs.Known.{said_by}
@@ -16,11 +15,11 @@ use Rattle.pc_history.proofs.Counts.{messages-said_by, weight-said_by, listed_co
 use Rattle.pc_spelling.specs.Spelling.{bool_field, u64_field, digest_fields, short_list, client_fields, mailboxes_fields, subscription_fields, fields_of_record}
 use Rattle.pc_spelling.specs.Fields.{digest_kind, any}
 use Rattle.pc_spelling.specs.Format.{Format, ends, goes, bind}
-use Rattle.pc_spelling.specs.RecordForm.{is_digest, client_fits, mailbox_fits, subscription_fits, CanBeSaved}
+use Rattle.pc_spelling.specs.RecordForm.{is_digest, client_fits, mailbox_fits, subscription_fits, fits_record}
 use Rattle.pc_spelling.specs.RecordFormat.{digest_format, clients_format, mailboxes_format, subscriptions_format, record_format}
 use Rattle.pc_spelling.proofs.Good.{Good, good_bind}
 use Rattle.pc_spelling.proofs.GoodChanges.{and-two}
-use Rattle.pc_spelling.proofs.GoodTables.{AreClientsTo, AreReadClients, good_clients, AreReadSubscriptions, good_subscriptions, within-parts, length-keys}
+use Rattle.pc_spelling.proofs.GoodTables.{AreReadClients, good_clients, AreReadSubscriptions, good_subscriptions, within-parts, length-keys}
 use Rattle.pc_spelling.proofs.GoodMailboxes.{Table, AreMailboxes, IsReadTable, good_mailboxes}
 
 -- ---- the digest
@@ -98,7 +97,8 @@ module _ (r : AccountRecord) (formed : IsWellFormed r 9223372036854775808) (few-
 
 pub record IsReadRecord (fields : List (List ℕ)) (r : AccountRecord) : Type 0 where
   pub spelled : fields ≡ fields_of_record r
-  pub saved : CanBeSaved r
+  pub canonical : IsCanonical r 9223372036854775808
+  pub fits : IsTrue (fits_record r)
 
 module _ (pulled : ℕ) (digest : Option (List ℕ)) (clients : List (List ℕ × ℕ)) (mailboxes : Table × Table) (subscriptions : List (List ℕ × ℕ)) (f1 f2 f3 f4 : List (List ℕ)) (last : pulled ≤ LAST_MAIL) (d : IsReadDigest (u64_field pulled ∷ []) f1 digest) (c : AreReadClients f1 f2 clients) (m : IsReadTable clients f2 f3 mailboxes) (s : AreReadSubscriptions f3 f4 subscriptions) where
   abbrev r : AccountRecord
@@ -119,13 +119,13 @@ module _ (pulled : ℕ) (digest : Option (List ℕ)) (clients : List (List ℕ �
         pulled = last;
       }
 
-  record-saved : CanBeSaved r
-  record-saved = record {
-    number = 9223372036854775808;
-    canonical = record { well_formed = formed; within = within-limits r formed c.few m.few m.are s.few };
-    fits = and-two (is_digest digest && list_all client_fits clients && list_all mailbox_fits mailboxes.0 && list_all mailbox_fits mailboxes.1) (list_all subscription_fits subscriptions)
-        (and-two (is_digest digest && list_all client_fits clients && list_all mailbox_fits mailboxes.0) (list_all mailbox_fits mailboxes.1) (and-two (is_digest digest && list_all client_fits clients) (list_all mailbox_fits mailboxes.0) (and-two (is_digest digest) (list_all client_fits clients) d.fits c.are.fit) m.are.live_fit) m.are.dropped_fit) s.fit;
-  }
+  record-canonical : IsCanonical r 9223372036854775808
+  record-canonical = record { well_formed = formed; within = within-limits r formed c.few m.few m.are s.few }
+
+  record-fits : IsTrue (fits_record r)
+  record-fits =
+      and-two (is_digest digest && list_all client_fits clients && list_all mailbox_fits mailboxes.0 && list_all mailbox_fits mailboxes.1) (list_all subscription_fits subscriptions)
+      (and-two (is_digest digest && list_all client_fits clients && list_all mailbox_fits mailboxes.0) (list_all mailbox_fits mailboxes.1) (and-two (is_digest digest && list_all client_fits clients) (list_all mailbox_fits mailboxes.0) (and-two (is_digest digest) (list_all client_fits clients) d.fits c.are.fit) m.are.live_fit) m.are.dropped_fit) s.fit
 
   record-spelled : f4 ≡ fields_of_record r
   record-spelled =
@@ -135,7 +135,7 @@ module _ (pulled : ℕ) (digest : Option (List ℕ)) (clients : List (List ℕ �
       s.spelled ∙ fourth
 
   pub record-read : IsReadRecord f4 r
-  record-read = record { spelled = record-spelled; saved = record-saved }
+  record-read = record { spelled = record-spelled; canonical = record-canonical; fits = record-fits }
 
 abbrev pub with_subscriptions : ℕ → Option (List ℕ) → List (List ℕ × ℕ) → Table × Table → Format AccountRecord
 with_subscriptions pulled digest clients mailboxes = bind subscriptions_format (λ subscriptions. ends (record { pulled = pulled; digest = digest; clients = clients; live = mailboxes.0; dropped = mailboxes.1; subscriptions = subscriptions }))

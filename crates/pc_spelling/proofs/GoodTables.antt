@@ -1,8 +1,8 @@
 -- Clients and subscriptions as they are read.
-use Rattle.std.proofs.Common.{◌≡◌, ℕ, zero, suc, ◌+◌, ◌-◌, ◌<◌, ◌≤◌, ◌&&◌, ◌||◌, nat_lt, nat_le, Bool, true, false, cond, not, List, [], ◌∷◌, ◌++◌, length, IsTrue, refl, sym, ap, subst, ◌∙◌, append_assoc, arith, true≢false, length-append}
-use Rattle.std.specs.List.{list_any, list_all, flat_map, AllByRecursion as Every}
+use Rattle.std.proofs.Common.{◌≡◌, ℕ, zero, suc, ◌+◌, ◌-◌, ◌<◌, ◌≤◌, nat_lt, nat_le, Bool, true, false, List, [], ◌∷◌, ◌++◌, length, refl, sym, ap, subst, ◌∙◌, append_assoc, arith, length-append}
+use Rattle.std.specs.List.{list_all, flat_map, AllByRecursion as Every}
 use Rattle.std.specs.Map.{keys_of}
-use Rattle.std.proofs.lemmas.Bool.{ltb-true, leb-true, lt-ltb, le-leb, and_parts, or_parts, not-true}
+use Rattle.std.proofs.lemmas.Bool.{leb-true, lt-ltb, le-leb, and_parts, or_parts, not-true}
 use Rattle.pc_base.specs.Name.{is_name}
 use Rattle.pc_history.specs.Table.{same, is_among}
 use Rattle.pc_history.specs.Legal.{Ordered, AreDistinct}

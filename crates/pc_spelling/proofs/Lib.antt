@@ -2,6 +2,8 @@ pub mod EntryFormats
 pub mod EntryLaws
 pub mod EntryReads
 pub mod Fields
+pub mod FitsAfter
+pub mod Fitting
 pub mod ForgetSize
 pub mod Follows
 pub mod Formats
@@ -14,6 +16,7 @@ pub mod GoodMailboxes
 pub mod GoodMessages
 pub mod GoodRecord
 pub mod GoodTables
+pub mod Holding
 pub mod Loops
 pub mod MessageReads
 pub mod ReadLoops
@@ -22,4 +25,5 @@ pub mod ReadsMessages
 pub mod ReadsRecord
 pub mod RecordLaws
 pub mod RecordSize
+pub mod TestedFields
 pub mod Values

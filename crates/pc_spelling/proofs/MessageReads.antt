@@ -1,5 +1,5 @@
 -- Reading message after message.
-use Rattle.std.proofs.Common.{◌≡◌, ℕ, zero, suc, ◌+◌, ◌-◌, ◌*◌, ◌<◌, ◌≤◌, min, List, [], ◌∷◌, ◌++◌, Result, Ok, Err, refl, sym, ap, subst, ◌∙◌, arith, MatchResult}
+use Rattle.std.proofs.Common.{◌≡◌, ℕ, zero, suc, ◌+◌, ◌-◌, ◌*◌, ◌<◌, ◌≤◌, min, List, [], ◌∷◌, ◌++◌, Result, Ok, Err, sym, ap, subst, ◌∙◌, arith, MatchResult}
 use Rattle.std.specs.Result.{IsErr, IsErrAnd}
 use Rattle.pc_message.specs.Message.{weight_of}
 use Rattle.pc_history.specs.declared.kept.Kept.{Kept}

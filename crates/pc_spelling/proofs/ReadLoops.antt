@@ -1,10 +1,10 @@
 -- Reading item after item.
-use Rattle.std.proofs.Common.{◌≡◌, ℕ, zero, suc, ◌+◌, ◌-◌, ◌*◌, ◌<◌, ◌≤◌, Bool, List, [], ◌∷◌, ◌++◌, length, Result, Ok, Err, refl, sym, ap, subst, ◌∙◌, append_assoc, arith}
+use Rattle.std.proofs.Common.{◌≡◌, ℕ, zero, suc, ◌+◌, ◌-◌, ◌<◌, List, [], ◌∷◌, ◌++◌, length, Result, Ok, Err, refl, sym, ap, subst, append_assoc, arith}
 use Rattle.std.specs.Result.{IsErr, IsErrAnd}
 use Rattle.std.proofs.lemmas.List.{append-nil}
 use Rattle.pc_message.specs.Message.{size_of}
-use Rattle.pc_spelling.specs.Fields.{Held, line_kind, has_room, FieldReads}
-use Rattle.pc_spelling.specs.Format.{Format, ends, goes, bind, repeated, Outcome, Reads}
+use Rattle.pc_spelling.specs.Fields.{line_kind, has_room, FieldReads}
+use Rattle.pc_spelling.specs.Format.{Format, ends, bind, repeated, Outcome, Reads}
 use Rattle.pc_spelling.specs.EntryFormat.{lines_format}
 use Rattle.pc_spelling.specs.declared.spelling.cursor.Halt.{Halt}
 use Rattle.pc_spelling.specs.declared.spelling.cursor.Halt.TheVariants.{NoField, Memory}

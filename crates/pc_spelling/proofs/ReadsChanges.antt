@@ -1,11 +1,11 @@
 -- The fields of update lists are read as them.
-use Rattle.std.proofs.Common.{◌≡◌, ℕ, zero, suc, ◌+◌, ◌-◌, ◌<◌, ◌≤◌, ◌&&◌, ◌||◌, ◌==◌, nat_lt, nat_le, min, Bool, true, false, cond, not, ◌⊎◌, inl, inr, List, [], ◌∷◌, ◌++◌, length, IsTrue, refl, sym, ap, subst, ◌∙◌, append_assoc, arith, true≢false}
-use Rattle.std.specs.List.{filter, list_any, list_all, flat_map, AllByRecursion as Every}
-use Rattle.std.proofs.lemmas.Bool.{ltb-true, ltb-false, leb-true, lt-ltb, le-leb, eqb-true, eq-eqb, and_parts}
+use Rattle.std.proofs.Common.{◌≡◌, ℕ, zero, suc, ◌+◌, ◌-◌, ◌<◌, ◌≤◌, ◌&&◌, ◌||◌, ◌==◌, nat_lt, nat_le, Bool, true, false, cond, not, ◌⊎◌, inl, inr, List, [], ◌∷◌, ◌++◌, length, refl, sym, ap, subst, ◌∙◌, append_assoc, arith, true≢false}
+use Rattle.std.specs.List.{filter, list_all, flat_map, AllByRecursion as Every}
+use Rattle.std.proofs.lemmas.Bool.{ltb-true, ltb-false, lt-ltb, le-leb, eqb-true, eq-eqb, and_parts}
 use Rattle.std.proofs.lemmas.List.{append-nil}
 use Rattle.pc_history.specs.declared.kept.Listed.{Listed}
 use Rattle.pc_history.specs.Legal.{Ordered, IsListedBefore, HasOtherUid}
-use Rattle.pc_history.proofs.Uids.{Every-weaker, Every-append}
+use Rattle.pc_history.proofs.Uids.{Every-weaker}
 use Rattle.pc_history.proofs.FormedAfter.{Every-split}
 use Rattle.pc_spelling.specs.Spelling.{listed_fields}
 use Rattle.pc_spelling.specs.Fields.{within}
@@ -36,7 +36,7 @@ one-up uid at other less = by_test (nat_lt (suc uid) at) refl
         absurd (true≢false (sym (eq-eqb (suc uid) at is) ∙ other))
 
 -- where the next uid isn't there, as many are above it
-above-same : (uid : ℕ) (list : List Listed) → Every (λ (listed : Listed). (suc uid == listed.uid) ≡ false) list → above uid list ≤ above (suc uid) list
+pub above-same : (uid : ℕ) (list : List Listed) → Every (λ (listed : Listed). (suc uid == listed.uid) ≡ false) list → above uid list ≤ above (suc uid) list
 above-same uid [] h = omega arith
 above-same uid (listed ∷ list) h = same-count (nat_lt uid listed.uid) (nat_lt (suc uid) listed.uid) listed (filter (λ (l : Listed). nat_lt uid l.uid) list) (filter (λ (l : Listed). nat_lt (suc uid) l.uid) list) (one-up uid listed.uid h.0) (above-same uid list h.1)
 
@@ -48,7 +48,7 @@ more-count false true d x xs ys up here le = omega arith
 more-count false false d x xs ys up here le = le
 
 -- at most one less is above the next uid
-above-step : (uid : ℕ) (list : List Listed) → Ordered HasOtherUid list → above uid list ≤ suc (above (suc uid) list)
+pub above-step : (uid : ℕ) (list : List Listed) → Ordered HasOtherUid list → above uid list ≤ suc (above (suc uid) list)
 above-step uid [] distinct = omega arith
 above-step uid (listed ∷ list) distinct =
     more-count (nat_lt uid listed.uid) (nat_lt (suc uid) listed.uid) (suc uid == listed.uid) listed (filter (λ (l : Listed). nat_lt uid l.uid) list) (filter (λ (l : Listed). nat_lt (suc uid) l.uid) list)
@@ -76,7 +76,7 @@ append-count : (b : Bool) (x : Listed) (xs ys : List Listed) (n : ℕ) → lengt
 append-count true x xs ys n e = omega (arith, e)
 append-count false x xs ys n e = e
 
-above-append : (uid : ℕ) (list more : List Listed) → above uid (list ++ more) ≡ above uid list + above uid more
+pub above-append : (uid : ℕ) (list more : List Listed) → above uid (list ++ more) ≡ above uid list + above uid more
 above-append uid [] more = omega arith
 above-append uid (listed ∷ list) more = append-count (nat_lt uid listed.uid) listed (filter (λ (l : Listed). nat_lt uid l.uid) list) (filter (λ (l : Listed). nat_lt uid l.uid) (list ++ more)) (above uid more) (above-append uid list more)
 

@@ -1,5 +1,5 @@
 -- The fields of messages that fit are read as them.
-use Rattle.std.proofs.Common.{◌≡◌, ℕ, zero, suc, ◌+◌, ◌-◌, ◌*◌, ◌/◌, ◌<◌, ◌≤◌, ◌&&◌, nat_lt, nat_le, min, Bool, true, List, [], ◌∷◌, ◌++◌, length, map, IsTrue, refl, sym, ap, subst, ◌∙◌, append_assoc, arith}
+use Rattle.std.proofs.Common.{◌≡◌, ℕ, suc, ◌+◌, ◌-◌, ◌*◌, ◌/◌, ◌<◌, ◌≤◌, ◌&&◌, nat_le, min, true, List, [], ◌∷◌, ◌++◌, length, map, refl, subst, append_assoc, arith}
 use Rattle.std.specs.List.{list_all, flat_map, AllByRecursion as Every}
 use Rattle.std.proofs.lemmas.Bool.{ltb-true, leb-true, lt-ltb, le-leb, and_parts}
 use Rattle.std.proofs.lemmas.List.{append-nil}
@@ -9,7 +9,6 @@ use Rattle.pc_history.specs.declared.kept.Kept.{Kept}
 use Rattle.pc_history.specs.Table.{total}
 use Rattle.pc_history.specs.Legal.{Ordered}
 use Rattle.pc_spelling.specs.Spelling.{line_field, message_fields, kept_fields}
-use Rattle.pc_spelling.specs.Fields.{within, has_room}
 use Rattle.pc_spelling.specs.Format.{ends, bind}
 use Rattle.pc_spelling.specs.EntryForm.{is_message, is_u32}
 use Rattle.pc_spelling.specs.EntryFormat.{lines_format}

@@ -1,10 +1,10 @@
 -- The fields of a record that can be saved are read as it.
-use Rattle.std.proofs.Common.{◌≡◌, ℕ, zero, suc, ◌+◌, ◌-◌, ◌*◌, ◌/◌, ◌<◌, ◌≤◌, ◌&&◌, ◌||◌, nat_lt, nat_le, min, Bool, true, false, cond, not, List, [], ◌∷◌, ◌++◌, length, Option, None, Some, unwrap_or, MatchOption, IsTrue, refl, sym, ap, subst, ◌∙◌, append_assoc, arith, true≢false, length-append, inl, inr}
+use Rattle.std.proofs.Common.{◌≡◌, ℕ, zero, suc, ◌+◌, ◌-◌, ◌*◌, ◌/◌, ◌<◌, ◌≤◌, ◌&&◌, nat_lt, nat_le, min, Bool, true, false, not, List, [], ◌∷◌, ◌++◌, length, Option, None, Some, unwrap_or, MatchOption, refl, sym, ap, subst, ◌∙◌, append_assoc, arith, length-append, inl, inr}
 use Rattle.std.specs.Prelude.{⊤}
-use Rattle.std.specs.List.{list_any, list_all, flat_map, AllByRecursion as Every}
+use Rattle.std.specs.List.{list_all, flat_map, AllByRecursion as Every}
 use Rattle.std.specs.Map.{lookup, keys_of}
 use Rattle.std.specs.Option.{option_or}
-use Rattle.std.proofs.lemmas.Bool.{ltb-true, ltb-false, leb-true, lt-ltb, le-leb, and_parts, not-false}
+use Rattle.std.proofs.lemmas.Bool.{ltb-true, ltb-false, leb-true, lt-ltb, and_parts, not-false}
 use Rattle.std.proofs.lemmas.List.{append-nil}
 use Rattle.pc_base.specs.Name.{is_name}
 use Rattle.pc_message.specs.Message.{weight_of}
@@ -15,18 +15,18 @@ use Rattle.pc_history.specs.Table.{same, is_among, total}
 use Rattle.pc_history.specs.Record.{MailboxRecord, AccountRecord, mailbox_of, new_mailbox}
 use Rattle.pc_history.specs.Known.{said_by}
 use Rattle.pc_history.specs.Allowed.{messages}
-use Rattle.pc_history.specs.Legal.{Ordered, AreDistinct, HasOtherUid, IsListedBefore, IsChange, IsUpdateList, AreListsOf, IsMailbox, IsWellFormed, IsCanonical}
+use Rattle.pc_history.specs.Legal.{Ordered, AreDistinct, IsChange, IsUpdateList, AreListsOf, IsMailbox, IsWellFormed}
 use Rattle.pc_history.proofs.Tables.{same-refl, same-sym, lookup-append, keys-append}
-use Rattle.pc_history.proofs.Uids.{Every-weaker, Every-append}
+use Rattle.pc_history.proofs.Uids.{Every-weaker}
 use Rattle.pc_history.proofs.FormedAfter.{Every-from_lookups, Every-split}
 use Rattle.pc_history.proofs.Counts.{messages-said_by, weight-said_by, listed_count-said_by}
 use Rattle.pc_history.proofs.Numbers.{total-append}
-use Rattle.pc_spelling.specs.Spelling.{name_field, bool_field, u16_field, u32_field, u64_field, digest_fields, client_fields, kept_fields, listed_fields, update_list_fields, mailbox_fields, mailboxes_fields, subscription_fields, short_list, long_list, fields_of_record}
-use Rattle.pc_spelling.specs.Fields.{u16_kind, u32_kind, within}
-use Rattle.pc_spelling.specs.Format.{Format, ends, goes, bind}
+use Rattle.pc_spelling.specs.Spelling.{u32_field, u64_field, digest_fields, client_fields, kept_fields, listed_fields, update_list_fields, mailbox_fields, mailboxes_fields, subscription_fields, short_list, fields_of_record}
+use Rattle.pc_spelling.specs.Fields.{u16_kind, within}
+use Rattle.pc_spelling.specs.Format.{ends, goes, bind}
 use Rattle.pc_spelling.specs.EntryForm.{is_u32}
-use Rattle.pc_spelling.specs.RecordForm.{is_digest, is_entry_number, client_fits, kept_fits, listed_fits, list_fits, mailbox_fits, subscription_fits, fits_record, CanBeSaved}
-use Rattle.pc_spelling.specs.RecordFormat.{last_number, is_new, has_none, digest_format, clients_from, clients_format, messages_from, changes_from, lists_from, mailbox_format, weight_under, changes_under, mailboxes_from, mailboxes_format, subscriptions_from, subscriptions_format, record_format}
+use Rattle.pc_spelling.specs.RecordForm.{is_digest, is_entry_number, client_fits, kept_fits, listed_fits, list_fits, mailbox_fits, subscription_fits, CanBeSaved}
+use Rattle.pc_spelling.specs.RecordFormat.{last_number, is_new, digest_format, clients_from, clients_format, messages_from, changes_from, lists_from, mailbox_format, weight_under, changes_under, mailboxes_from, mailboxes_format, subscriptions_from, subscriptions_format, record_format}
 use Rattle.pc_spelling.proofs.Formats.{ReadsAs, reads_bind}
 use Rattle.pc_spelling.proofs.GoodChanges.{and-two}
 use Rattle.pc_spelling.proofs.GoodTables.{is-within, length-keys}
@@ -332,7 +332,7 @@ all-split test (x ∷ xs) ys e =
     (and-two (test x) (list_all test xs) parts.0 rest.0, rest.1)
 
 -- under each name of the tables stands what is found there
-found-there : (r : AccountRecord) → AreDistinct (keys_of r.live ++ keys_of r.dropped) → Every (λ (entry : List ℕ × MailboxRecord). mailbox_of r entry.0 ≡ entry.1) r.live × Every (λ (entry : List ℕ × MailboxRecord). mailbox_of r entry.0 ≡ entry.1) r.dropped
+pub found-there : (r : AccountRecord) → AreDistinct (keys_of r.live ++ keys_of r.dropped) → Every (λ (entry : List ℕ × MailboxRecord). mailbox_of r entry.0 ≡ entry.1) r.live × Every (λ (entry : List ℕ × MailboxRecord). mailbox_of r entry.0 ≡ entry.1) r.dropped
 found-there r distinct =
     Every-split (λ (entry : List ℕ × MailboxRecord). mailbox_of r entry.0 ≡ entry.1) r.live r.dropped
     (Every-from_lookups (λ name box. mailbox_of r name ≡ box) (r.live ++ r.dropped) (subst AreDistinct (sym (keys-append r.live r.dropped)) distinct)

@@ -1,15 +1,15 @@
 -- What reading a record says of its bytes, and the laws of the bytes of records.
-use Rattle.std.proofs.Common.{◌≡◌, ℕ, ◌+◌, ◌-◌, ◌<◌, ◌≤◌, List, [], ◌∷◌, ◌++◌, length, IsTrue, Result, Ok, Err, refl, sym, ap, subst, ◌∙◌, append_assoc, arith}
+use Rattle.std.proofs.Common.{◌≡◌, ℕ, ◌-◌, ◌<◌, ◌≤◌, List, [], ◌∷◌, ◌++◌, length, sym, ap, subst, ◌∙◌, append_assoc, arith}
 use Rattle.std.specs.List.{concat}
 use Rattle.std.proofs.lemmas.List.{append-nil, length-append, nil_from_length}
 use Rattle.pc_history.specs.Record.{AccountRecord}
+use Rattle.pc_history.specs.Legal.{IsCanonical}
 use Rattle.pc_spelling.specs.Spelling.{fields_of_record, spelled_record}
 use Rattle.pc_spelling.specs.RecordForm.{CanBeSaved, IsRecord, IsRecordFault}
 use Rattle.pc_spelling.specs.RecordFormat.{record_format}
 use Rattle.pc_spelling.specs.RecordLaws.{OneRecord, RecordIsRead, OneRecordFault, RecordIsShort}
-use Rattle.pc_spelling.specs.Fault.{GoesOn, IsFirstFault}
 use Rattle.pc_spelling.specs.Format.{Took, Stuck}
-use Rattle.pc_spelling.proofs.Formats.{ReadsAs, Whole, IsOpen, Read, took_fields, Stops, stuck_stops, ends_there, one_value, no_fault, one_fault, same_faults}
+use Rattle.pc_spelling.proofs.Formats.{ReadsAs, Whole, IsOpen, took_fields, stuck_stops, ends_there, one_value, no_fault, one_fault, same_faults}
 use Rattle.pc_spelling.proofs.Good.{good_open, good_reads}
 use Rattle.pc_spelling.proofs.GoodRecord.{IsReadRecord, good_record}
 use Rattle.pc_spelling.proofs.ReadsRecord.{reads_record}
@@ -20,7 +20,19 @@ record_open : IsOpen record_format
 record_open = good_open IsReadRecord record_format [] good_record
 
 pub reads_as_record : (fields : List (List ℕ)) (r : AccountRecord) → ReadsAs record_format fields r → CanBeSaved r × (fields ≡ fields_of_record r)
-reads_as_record fields r reads = let is = good_reads IsReadRecord record_format [] fields r good_record reads in (is.saved, is.spelled)
+reads_as_record fields r reads =
+    let is = good_reads IsReadRecord record_format [] fields r good_record reads in
+    (record { number = 9223372036854775808; canonical = is.canonical; fits = is.fits }, is.spelled)
+
+-- what was read is canonical before the last number
+pub record_canonical : (old new : List ℕ) (r : AccountRecord) → Took record_format old r new → IsCanonical r 9223372036854775808
+record_canonical old new r took =
+    let read = took_fields record_format old new r took in
+    (good_reads IsReadRecord record_format [] read.fields r good_record read.reads).canonical
+
+-- so is each record that can be saved
+pub canonical_last : (r : AccountRecord) → CanBeSaved r → IsCanonical r 9223372036854775808
+canonical_last r saved = (good_reads IsReadRecord record_format [] (fields_of_record r) r good_record (reads_record r saved)).canonical
 
 pub to_record : (fields : List (List ℕ)) → Whole record_format fields → IsRecord fields
 to_record fields whole = let is = reads_as_record fields whole.0 whole.1 in (whole.0, is.0, is.1)

@@ -1,20 +1,19 @@
 -- How many bytes a record takes.
-use Rattle.std.proofs.Common.{◌≡◌, ℕ, suc, ◌+◌, ◌*◌, ◌<◌, ◌≤◌, ◌&&◌, nat_lt, nat_le, Bool, true, false, List, [], ◌∷◌, ◌++◌, length, map, Option, None, Some, refl, sym, ap, ◌∙◌, arith, length-append}
-use Rattle.std.specs.Int.{w16, w32, w64, to_be_bytes}
+use Rattle.std.proofs.Common.{◌≡◌, ℕ, suc, ◌+◌, ◌*◌, ◌≤◌, ◌&&◌, nat_lt, Bool, true, false, List, [], ◌∷◌, ◌++◌, length, map, Option, None, Some, refl, ap, ◌∙◌, arith, length-append}
 use Rattle.std.specs.List.{list_all, flat_map, concat, AllByRecursion as Every}
 use Rattle.std.specs.Map.{keys_of}
-use Rattle.std.proofs.lemmas.Bool.{ltb-true, ltb-false, leb-true, eqb-true, and_parts}
+use Rattle.std.proofs.lemmas.Bool.{ltb-true, ltb-false, eqb-true, and_parts}
 use Rattle.pc_base.specs.Name.{is_name, is_letter, is_name_byte}
 use Rattle.pc_message.specs.Message.{size_of, weight_of}
 use Rattle.pc_history.specs.declared.kept.Kept.{Kept}
 use Rattle.pc_history.specs.declared.kept.Listed.{Listed}
 use Rattle.pc_history.specs.Table.{total}
 use Rattle.pc_history.specs.Record.{MailboxRecord, AccountRecord}
-use Rattle.pc_history.specs.Legal.{AreListsOf, IsMailbox, IsCanonical}
+use Rattle.pc_history.specs.Legal.{AreListsOf, IsMailbox}
 use Rattle.pc_history.proofs.Counts.{weight-said_by, listed_count-said_by}
-use Rattle.pc_spelling.specs.Spelling.{u16_field, u32_field, u64_field, name_field, bool_field, line_field, message_fields, digest_fields, client_fields, kept_fields, listed_fields, update_list_fields, mailbox_fields, mailboxes_fields, subscription_fields, short_list, long_list, fields_of_record, spelled_record}
+use Rattle.pc_spelling.specs.Spelling.{u16_field, u32_field, u64_field, name_field, bool_field, line_field, message_fields, digest_fields, client_fields, kept_fields, listed_fields, update_list_fields, mailbox_fields, mailboxes_fields, subscription_fields, short_list, long_list, spelled_record}
 use Rattle.pc_spelling.specs.EntryForm.{is_u32}
-use Rattle.pc_spelling.specs.RecordForm.{is_digest, is_entry_number, client_fits, kept_fits, listed_fits, list_fits, mailbox_fits, subscription_fits, fits_record, CanBeSaved}
+use Rattle.pc_spelling.specs.RecordForm.{is_digest, is_entry_number, client_fits, kept_fits, listed_fits, list_fits, mailbox_fits, subscription_fits, CanBeSaved}
 use Rattle.pc_spelling.proofs.Loops.{concat-append}
 use Rattle.pc_spelling.proofs.GoodMailboxes.{Table, weight_of_box, changes_of_box}
 use Rattle.pc_spelling.proofs.GoodTables.{length-keys}

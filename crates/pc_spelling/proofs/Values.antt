@@ -1,9 +1,8 @@
 -- A field at the front of bytes holds one value.
-use Rattle.std.proofs.Common.{◌≡◌, ℕ, zero, suc, ◌+◌, ◌<◌, ◌≤◌, ◌&&◌, nat_le, Bool, true, false, List, [], ◌∷◌, ◌++◌, length, take, IsTrue, refl, sym, ap, ◌∙◌, append_assoc, arith}
+use Rattle.std.proofs.Common.{◌≡◌, ℕ, ◌≤◌, nat_le, Bool, true, false, List, ◌++◌, length, IsTrue, refl, sym, ap, ◌∙◌, append_assoc, arith}
 use Rattle.std.specs.Int.{w16, to_be_bytes}
 use Rattle.std.proofs.lemmas.Bool.{ltb-true, leb-true, eqb-true, and_parts}
 use Rattle.std.proofs.lemmas.List.{append_cancel_left}
-use Rattle.pc_base.specs.Line.{is_line}
 use Rattle.pc_spelling.specs.Spelling.{u16_field, u32_field, u64_field}
 use Rattle.pc_spelling.specs.Fields.{Kind, name_kind, u8_kind, u16_kind, u32_kind, u64_kind, bool_kind, digest_kind, line_kind, Held, fits, field_of}
 use Rattle.pc_spelling.proofs.Fields.{wide16, wide32, wide64, same_number, same_front}

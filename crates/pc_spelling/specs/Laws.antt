@@ -1,7 +1,7 @@
 -- What holds of the bytes of entries.
 use Rattle.std.specs.Prelude.{◌≡◌, ℕ, ◌+◌, ◌*◌, ◌≤◌, IsTrue, List, [], length}
 use Rattle.pc_history.specs.declared.entry.Entry.{Entry}
-use Rattle.pc_history.specs.declared.entry.Entry.TheVariants.{MakeMailbox, DropMailbox, Flag, Expunge, Copy, MakeClient, DropClient, ResetClient, ResetMailbox, Forget, Pull, Password, Subscribe, Unsubscribe, Mark}
+use Rattle.pc_history.specs.declared.entry.Entry.TheVariants.{Forget, Pull}
 use Rattle.pc_history.specs.declared.limits.TheConstants.{MOST_CHANGES}
 use Rattle.pc_spelling.specs.Spelling.{spelled_entry}
 use Rattle.pc_spelling.specs.EntryForm.{entry_fits, IsEntryFault}

@@ -8,6 +8,6 @@ mod spelling;
 mod tests;
 
 pub use spelling::{
-    Cursor, Halt, read_entry, read_messages, write_bool, write_entry, write_message, write_name,
-    write_u16, write_u32, write_u64,
+    Cursor, Halt, fault_at, fits, read_digest, read_entry, read_messages, read_same_name,
+    write_bool, write_entry, write_message, write_name, write_u16, write_u32, write_u64,
 };

@@ -1,6 +1,6 @@
 //! What holds of the bytes of records. Each law is the contract of a function that does nothing.
 
-ghost use Rattle.pc_spelling.specs.RecordLaws.{OneRecord, RecordIsRead, OneRecordFault, RecordIsShort, ForgetIsShort};
+ghost use Rattle.pc_spelling.specs.RecordLaws.{OneRecord, RecordIsRead, OneRecordFault, RecordIsShort, ForgetIsShort, StepFits};
 
 /// No bytes are those of two records.
 pub fn one_record()
@@ -25,4 +25,9 @@ pub fn record_is_short()
 /// An allowed entry takes no more changes off a list than there can be.
 pub fn forget_is_short()
     ensures { ForgetIsShort }
+{}
+
+/// What fits its fields fits again after an entry that may come next and fits.
+pub fn step_fits()
+    ensures { StepFits }
 {}

@@ -1,6 +1,7 @@
 use super::*;
-use pc_base::{Bytes, ReadFault};
+use pc_base::{Bytes, Lines, Name, ReadFault};
 use pc_history::Entry;
+use pc_message::{Letters, Message};
 use std::alloc::Global;
 use std::test::Fail;
 
@@ -24,14 +25,14 @@ fn place_of(alloc: Global, bytes: &[u8]) -> Result<Option<u64>, Fail> {
     }
 }
 
-/// Whether the bytes are read as an entry of this kind, and written again as they were.
+/// Whether the bytes are read as an entry of this kind, which fits, and written again as they were.
 fn is_read_back(alloc: Global, bytes: &[u8], word: &[u8]) -> Result<bool, Fail> {
     let Ok(entry) = read_entry(alloc, bytes) else {
         return Ok(false);
     };
     let mut written = Bytes::new(alloc);
     write_entry(&entry, &mut written)?;
-    Ok(entry.word() == word && written.as_slice() == bytes)
+    Ok(fits(&entry) && entry.word() == word && written.as_slice() == bytes)
 }
 
 /// The first of these fields that the first bytes don't have whole.
@@ -269,6 +270,22 @@ fn pulls_are_limited(rt: HostRuntime) -> Result<(), Fail> {
             bytes.extend_from_slice(b"\x01a\x00\x00\x00\x00")?;
         }
         assert_eq!(rt; place_of(rt.alloc(), &bytes)?, want);
+    }
+    Ok(())
+}
+
+#[test]
+fn pulls_that_do_not_fit(rt: HostRuntime) -> Result<(), Fail> {
+    let mailbox = Name::read(b"inbox").ok_or("a name")?;
+    for (count, want) in [(0, false), (1, true), (64, true), (65, false)] {
+        let mut letters = Letters::new(rt.alloc());
+        for _ in 0..count {
+            let Ok(message) = Message::of(Lines::new(rt.alloc())) else {
+                return Err("a message")?;
+            };
+            letters.push(mailbox, message)?;
+        }
+        assert_eq!(rt; fits(&Entry::Pull { upto: 1, letters }), want);
     }
     Ok(())
 }

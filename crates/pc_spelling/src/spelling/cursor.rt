@@ -58,6 +58,13 @@ impl<'a> Cursor<'a> {
         self.left
     }
 
+    /// A cursor that stands where this one stands, to look ahead.
+    pub fn ahead(&self) -> Cursor<'a>
+        ensures { result ≡ self.now }
+    {
+        Cursor { left: self.left }
+    }
+
     /// Passes over so many bytes.
     fn skip(&mut self, count: usize)
         requires { count ≤ length self.old }

@@ -38,7 +38,8 @@ pub fn read_entry(alloc: Global, bytes: &[u8]) -> Result<Entry, ReadFault>
     }
 }
 
-fn fault_at(place: usize) -> ReadFault
+/// Bytes are malformed at this place.
+pub fn fault_at(place: usize) -> ReadFault
     ensures { result ≡ faults.Malformed place }
 {
     ReadFault::Malformed {

@@ -1,4 +1,4 @@
-use Rattle.std.proofs.Common.{◌≡◌, ◌-◌, take, length, arith}
+use Rattle.std.proofs.Common.{◌≡◌, take}
 use Rattle.pc_spelling.proofs.Fields.{a_digest}
 use Rattle.pc_spelling.proofs.spelling.cursor.digest_at.Goals as goal
 

@@ -1,8 +1,8 @@
-use Rattle.std.proofs.Common.{◌≡◌, ℕ, ◌-◌, ◌<◌, ◌≤◌, IsTrue, Option, Some, List, length, take, drop, arith, ap, sym, ◌∙◌, subst}
+use Rattle.std.proofs.Common.{◌≡◌, ℕ, ◌-◌, ◌≤◌, IsTrue, Option, Some, List, length, take, drop, arith, ap, sym, ◌∙◌, subst}
 use Rattle.std.specs.Int.{w16}
 use Rattle.std.proofs.lemmas.Bool.{le-leb}
 use Rattle.std.proofs.lemmas.List.{take_rest, length-take}
-use Rattle.pc_base.specs.Line.{is_line, has_feed}
+use Rattle.pc_base.specs.Line.{is_line}
 use Rattle.pc_spelling.specs.Fields.{has_room, number_at}
 use Rattle.pc_spelling.proofs.Fields.{no_line, crowded, cut_line, other_line, long_text, fed_text, text_is, a_line}
 use Rattle.pc_spelling.proofs.spelling.cursor.line_at.Goals as goal

@@ -1,6 +1,4 @@
-use Rattle.std.proofs.Common.{◌≡◌, ◌-◌, ◌∙◌, Ok, Err, length, ap, subst, sym, arith}
-use Rattle.pc_base.specs.Machine.{FaultAt}
-use Rattle.pc_spelling.specs.EntryForm.{IsEntryFault}
+use Rattle.std.proofs.Common.{◌∙◌, Ok, Err, ap}
 use Rattle.pc_spelling.specs.declared.spelling.cursor.Halt.TheVariants.{NoField}
 use Rattle.pc_spelling.proofs.EntryReads.{entry_stuck, entry_trails, entry_found, left_of_entry, left_of_stuck, same_reading}
 use Rattle.pc_spelling.proofs.spelling.entry_reading.read_entry.Goals as goal

@@ -1,5 +1,5 @@
 use Rattle.pc_spelling.specs.Format.{ends}
-use Rattle.pc_spelling.proofs.Formats.{nothing_more, after_field, no_field, after_part, no_part}
+use Rattle.pc_spelling.proofs.Formats.{nothing_more, after_field, after_part, no_part}
 use Rattle.pc_spelling.proofs.spelling.entry_reading.read_letter.Goals as goal
 
 pub returns-in_err-message : goal.returns-in_err-message

@@ -1,5 +1,4 @@
-use Rattle.std.proofs.Common.{◌≡◌, arith}
-use Rattle.pc_spelling.specs.Format.{repeated}
+use Rattle.std.proofs.Common.{arith}
 use Rattle.pc_spelling.specs.EntryFormat.{letter_format}
 use Rattle.pc_spelling.proofs.ReadLoops.{repeated_first, repeated_more, repeated_halt, repeated_last}
 use Rattle.pc_spelling.proofs.spelling.entry_reading.read_letters.Goals as goal

@@ -1,6 +1,5 @@
-use Rattle.std.proofs.Common.{◌≡◌, ◌≤◌, length, ap, arith}
+use Rattle.std.proofs.Common.{◌≤◌, length, arith}
 use Rattle.std.proofs.lemmas.Bool.{leb-true}
-use Rattle.pc_spelling.specs.EntryFormat.{lines_format}
 use Rattle.pc_spelling.proofs.ReadLoops.{lines_first, lines_more, lines_halt, lines_last, size-push}
 use Rattle.pc_spelling.proofs.spelling.entry_reading.read_lines.Goals as goal
 

@@ -1,6 +1,6 @@
 use Rattle.pc_history.specs.declared.entry.Entry.TheVariants.{Pull}
 use Rattle.pc_spelling.specs.Format.{ends}
-use Rattle.pc_spelling.proofs.Formats.{nothing_more, after_field, no_field, after_part, no_part}
+use Rattle.pc_spelling.proofs.Formats.{nothing_more, after_field, after_part, no_part}
 use Rattle.pc_spelling.proofs.spelling.entry_reading.read_pull.Goals as goal
 
 pub returns-in_err-letters : goal.returns-in_err-letters

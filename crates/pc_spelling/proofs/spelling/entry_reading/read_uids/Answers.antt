@@ -1,5 +1,4 @@
-use Rattle.std.proofs.Common.{◌≡◌, refl, arith}
-use Rattle.pc_spelling.specs.Format.{repeated}
+use Rattle.std.proofs.Common.{refl, arith}
 use Rattle.pc_spelling.specs.EntryFormat.{uid_format}
 use Rattle.pc_spelling.proofs.Formats.{nothing_more, after_field, no_field}
 use Rattle.pc_spelling.proofs.ReadLoops.{repeated_first, repeated_more, repeated_halt, repeated_last}

@@ -1,7 +1,6 @@
-use Rattle.std.proofs.Common.{◌≡◌, ◌+◌, ◌-◌, ◌*◌, ◌≤◌, [], arith}
-use Rattle.pc_message.specs.Message.{weight_of}
+use Rattle.std.proofs.Common.{[], arith}
 use Rattle.pc_spelling.specs.RecordFormat.{messages_from}
-use Rattle.pc_spelling.proofs.MessageReads.{messages_first, messages_more, messages_halt, messages_last, match_err}
+use Rattle.pc_spelling.proofs.MessageReads.{messages_more, messages_halt, messages_last, match_err}
 use Rattle.pc_spelling.proofs.spelling.message_reading.read_messages.Goals as goal
 
 pub returns-in_err-kept : goal.returns-in_err-kept
