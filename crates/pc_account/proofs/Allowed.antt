@@ -1,33 +1,25 @@
 -- What an entry that may come next finds in the holdings.
-use Rattle.std.proofs.Common.{◌≡◌, ℕ, suc, Bool, true, false, not, cond, IsTrue, List, [], ◌∷◌, ◌++◌, Option, None, Some, IfSome, is_some, is_none, unwrap_or, refl, sym, ap, ◌∙◌, subst, true≢false}
+use Rattle.std.proofs.Common.{◌≡◌, ℕ, suc, Bool, true, false, not, cond, IsTrue, List, [], ◌∷◌, ◌++◌, Option, None, Some, IfSome, is_some, unwrap_or, refl, sym, ap, ◌∙◌, subst, true≢false}
 use Rattle.std.proofs.lemmas.Bool.{and_parts}
 use Rattle.std.specs.List.{AllByRecursion as Every}
 use Rattle.std.specs.Option.{option_map_or}
 use Rattle.std.specs.Map.{lookup, keys_of}
 use Rattle.pc_history.specs.declared.kept.Kept.{Kept}
-use Rattle.pc_history.specs.declared.entry.Entry.{Entry}
 use Rattle.pc_history.specs.declared.entry.Entry.TheVariants as entry
 use Rattle.pc_history.specs.Table.{same}
 use Rattle.pc_history.specs.Record.{MailboxRecord, AccountRecord, mailbox_of, new_mailbox, kept_at}
-use Rattle.pc_history.specs.Known.{Known}
-use Rattle.pc_history.specs.History.{start, ◌▸◌}
-use Rattle.pc_history.specs.Allowed.{is_allowed, is_mailbox}
-use Rattle.pc_history.specs.Limits.{limit_passed}
+use Rattle.pc_history.specs.Allowed.{is_mailbox}
 use Rattle.pc_history.specs.Legal.{AreDistinct, IsCanonical}
 use Rattle.pc_history.specs.Effect.{copy_as}
 use Rattle.pc_history.specs.Step.{after, at_mailbox, with_message}
 use Rattle.pc_history.proofs.Tables.{is_among-keys, lookup-absent, same-true}
 use Rattle.pc_history.proofs.FormedAfter.{Every-split}
 use Rattle.pc_history.proofs.Needs.{copy-parts}
-use Rattle.pc_history.proofs.Within.{IsCanonical-legal}
 use Rattle.pc_account.specs.Mailboxes.{Table, HasRoom, AreRoomFor}
 use Rattle.pc_account.specs.State.{State, said, may_follow}
+use Rattle.pc_account.specs.Following.{may-parts, canonical-after}
 use Rattle.pc_account.proofs.States.{with_letters-live}
 use Rattle.pc_account.proofs.Rooms.{within-limits, rooms, had-room, set-own, same-grown}
-
-none-from : {X : Type 0} (o : Option X) → is_none o ≡ true → o ≡ None
-none-from None h = refl
-none-from (Some x) h = absurd (true≢false (sym h))
 
 no-some : {X : Type 0} (o : Option X) → is_some o ≡ false → o ≡ None
 no-some None h = refl
@@ -37,15 +29,7 @@ not-true : (b : Bool) → not b ≡ true → b ≡ false
 not-true true h = absurd (true≢false (sym h))
 not-true false h = refl
 
--- it is allowed and passes no limit
-pub may-parts : (k : Known) (e : Entry) → IsTrue (may_follow k e) → (is_allowed k e ≡ true) × (limit_passed k e ≡ None)
-may-parts k e h = let parts = and_parts (is_allowed k e) (is_none (limit_passed k e)) h in (parts.0, none-from (limit_passed k e) parts.1)
-
 module _ (s : State) where
-  -- the record after it is canonical
-  pub canonical-after : (e : Entry) → IsCanonical s.held s.next → IsTrue (may_follow (said s) e) → IsCanonical (after s.held s.next e) (suc s.next)
-  canonical-after e canonical h = let parts = may-parts (said s) e h in IsCanonical-legal (start s.held s.next ▸ e) (canonical, parts.0, parts.1)
-
   lives : (name : List ℕ) → is_mailbox (said s) name ≡ true → is_some (lookup (same name) s.held.live) ≡ true
   lives name h = sym (is_among-keys name s.held.live) ∙ h
 

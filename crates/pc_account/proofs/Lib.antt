@@ -9,8 +9,10 @@ pub mod Letters
 pub mod Names
 pub mod OfParcels
 pub mod Passed
-pub mod Recorded
-pub mod Renumbered
+pub mod ReadLists
+pub mod ReadMailboxes
+pub mod ReadRecord
+pub mod ReadTables
 pub mod Rooms
 pub mod Settling
 pub mod Spread

@@ -1,9 +1,10 @@
--- What a store relies on of every account, its entries apart.
-use Rattle.std.specs.Prelude.{◌≡◌, ℕ, ◌<◌, ◌≤◌, true, List, length}
-use Rattle.pc_spelling.specs.Spelling.{spelled_record}
+-- What a store relies on of every account.
+use Rattle.std.specs.Prelude.{◌≡◌, ℕ, ◌^◌, ◌<◌, ◌≤◌, true, length}
+use Rattle.pc_history.specs.declared.entry.Entry.{Entry}
+use Rattle.pc_spelling.specs.Spelling.{spelled_entry, spelled_record}
 use Rattle.pc_spelling.specs.RecordForm.{IsRecordFault}
-use Rattle.pc_account.specs.State.{State, new_state}
-use Rattle.pc_account.specs.Legal.{IsLegalState, IsCanonicalState}
+use Rattle.pc_account.specs.State.{State, new_state, step}
+use Rattle.pc_account.specs.Legal.{IsLegalState, IsCanonicalState, accepts}
 use Rattle.pc_account.specs.Numbered.{suits, numbered}
 
 -- a state that got a number that suits it is legal
@@ -21,3 +22,11 @@ OneState = (state loaded : State) (number : ℕ) → IsLegalState state → stat
 -- the state of no history can be saved, and suits each number
 abbrev pub BeginSuits : Type 0
 BeginSuits = IsCanonicalState new_state × ((first : ℕ) → 0 < first → suits new_state first ≡ true)
+
+-- an entry leads from a legal state to a legal state
+abbrev pub StepIsLegal : Type 0
+StepIsLegal = (state : State) (entry : Entry) → IsLegalState state → accepts state entry ≡ true → state.next < 2 ^ 63 → IsLegalState (step state entry)
+
+-- an entry that may come next is short enough for a store
+abbrev pub AcceptedIsShort : Type 0
+AcceptedIsShort = (state : State) (entry : Entry) → IsLegalState state → accepts state entry ≡ true → (1 ≤ length (spelled_entry entry)) × (length (spelled_entry entry) ≤ 8388608)

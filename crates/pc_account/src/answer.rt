@@ -1,6 +1,6 @@
 //! Questions to an account, and their answers.
 
-ghost use Rattle.std.specs.Prelude.{◌≡◌, [], ◌∷◌, ◌++◌, OnOk, OnErr};
+ghost use Rattle.std.specs.Prelude.{◌≡◌, [], ◌∷◌, ◌++◌, IfOk, OnOk, OnErr};
 
 use pc_base::{Memory, Name};
 use pc_mailbox::Shown;
@@ -124,13 +124,13 @@ impl Model for MailboxRows {
 }
 
 impl MailboxRows {
-    /// An empty list.
-    pub fn new(alloc: Global) -> MailboxRows
-        ensures { result ≡ [] }
+    /// An empty list, with room for so many.
+    pub fn with_capacity(alloc: Global, capacity: usize) -> Result<MailboxRows, Memory>
+        ensures { IfOk result (λ rows. rows ≡ []) }
     {
-        MailboxRows {
-            rows: Vec::new(alloc),
-        }
+        Ok(MailboxRows {
+            rows: Vec::with_capacity(alloc, capacity)?,
+        })
     }
 
     /// Puts one more at the end. After `Err` nothing has changed.

@@ -68,6 +68,30 @@ impl Holdings {
         }
     }
 
+    /// Those with these parts. They take no memory.
+    pub fn of(
+        next: u64,
+        pulled: u64,
+        digest: Option<[u8; 32]>,
+        clients: IndexMap<Name, u64>,
+        live: Mailboxes,
+        dropped: Mailboxes,
+        subscriptions: IndexMap<Name, u32>,
+    ) -> Holdings
+        ensures held { result.held ≡ record { pulled = pulled; digest = digest; clients = clients.entries; live = live; dropped = dropped; subscriptions = subscriptions.entries } }
+        ensures next { result.next ≡ next }
+    {
+        Holdings {
+            next,
+            pulled,
+            digest,
+            clients,
+            live,
+            dropped,
+            subscriptions,
+        }
+    }
+
     /// The number of the next entry.
     pub fn next(&self) -> u64
         ensures { result ≡ self.now.next }

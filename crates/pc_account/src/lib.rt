@@ -10,6 +10,8 @@ mod forgetting;
 mod holdings;
 pub mod laws;
 mod limits;
+mod loading;
+mod machine;
 mod mailboxes;
 mod numbering;
 mod parcels;

@@ -1,9 +1,14 @@
 //! Tests on rows that were worked out by hand, and of what no clause says.
 
+mod full;
 mod limits;
+mod loading;
+mod machine;
+mod mails;
 mod player;
 mod refusals;
 mod rows;
+mod taking;
 mod telling;
 mod words;
 

@@ -7,6 +7,7 @@ ghost use Rattle.pc_history.specs.Step.{with_message, with_flag_set, expunged, e
 ghost use Rattle.pc_mailbox.specs.UpdateList.{takers_of, listed_in, all_list};
 ghost use Rattle.pc_mailbox.specs.Growth.{unlisted_by_all, unlisted_for};
 ghost use Rattle.pc_history.specs.Allowed.{messages};
+ghost use Rattle.pc_history.specs.Legal.{AreMessages};
 ghost use Rattle.pc_history.specs.Answers.{first_changes};
 ghost use Rattle.pc_mailbox.specs.Mailbox.{empty_mailbox, kept_as, weight_of_all, is_deleted, deleted, described, flags_at, message_at};
 ghost use Rattle.pc_mailbox.specs.Histories.{InEachHistory, descriptors_between, message_in, flags_in, takers_in};
@@ -59,6 +60,23 @@ impl Mailbox {
             messages: Vec::new(alloc),
             lists: Vec::new(alloc),
         })
+    }
+
+    /// A mailbox with these messages, of given uids which rise, and these lists.
+    pub fn of(highest: u32, messages: Vec<Kept>, lists: Vec<(Name, UpdateList)>) -> Mailbox
+        requires messages { AreMessages highest messages.items }
+        requires uids { highest ≤ MOST_UIDS }
+        requires few { length messages.items ≤ MOST_MESSAGES }
+        requires lists { length lists.items ≤ MOST_LISTS }
+        ensures { result ≡ record { highest = highest; messages = messages.items; lists = lists.items } }
+    {
+        let weight = messages::weight_of(&messages);
+        Mailbox {
+            highest,
+            weight,
+            messages,
+            lists,
+        }
     }
 
     /// Puts a message in under the next uid, which is answered.

@@ -3,10 +3,11 @@
 ghost use Rattle.pc_account.specs.State.{said};
 ghost use Rattle.pc_account.specs.Plan.{IsWish};
 
+use super::mails::{mails, rise};
 use super::telling::{ask, text, text_of_fault};
 use super::words::{message, name, number, wish};
 use crate::{Account, Entry, Wish};
-use pc_base::Name;
+use pc_base::{Name, Room};
 use pc_message::Letters;
 use std::alloc::Global;
 use std::process::Abort;
@@ -15,9 +16,47 @@ use std::test::Fail;
 /// Plays each row's line over a new account, and looks whether that gives the row's answer.
 pub fn plays(rt: &impl Abort, alloc: Global, rows: &[(&str, &str)]) -> Result<(), Fail> {
     let mut account = Account::empty(alloc)?;
+    goes_on(rt, alloc, &mut account, rows)
+}
+
+/// Plays each row's line over this account, and looks whether that gives the row's answer.
+pub fn goes_on(
+    rt: &impl Abort,
+    alloc: Global,
+    account: &mut Account,
+    rows: &[(&str, &str)],
+) -> Result<(), Fail> {
     for (line, want) in rows {
-        let told = tell(alloc, &mut account, line)?;
-        assert_eq!(rt; told.as_str(), *want, "at {line}");
+        gives(rt, alloc, account, line, want)?;
+    }
+    Ok(())
+}
+
+/// Plays a line, and looks whether that gives this answer.
+pub fn gives(
+    rt: &impl Abort,
+    alloc: Global,
+    account: &mut Account,
+    line: &str,
+    want: &str,
+) -> Result<(), Fail> {
+    let told = tell(alloc, account, line)?;
+    assert_eq!(rt; told.as_str(), want, "at {line}");
+    Ok(())
+}
+
+/// Plays a line of this verb for so many names, each this one with a number behind it.
+pub fn each(
+    rt: &impl Abort,
+    alloc: Global,
+    account: &mut Account,
+    verb: &str,
+    name: &str,
+    count: u32,
+) -> Result<(), Fail> {
+    for place in 0..count {
+        let line = format!(in alloc; "{verb} {name}{place}")?;
+        gives(rt, alloc, account, &line, verb)?;
     }
     Ok(())
 }
@@ -38,12 +77,13 @@ fn tell_words(
     verb: &str,
     words: &[&str],
 ) -> Result<String, Fail> {
-    if verb == "Pull" {
-        return pull(alloc, account, words);
+    if let Some(told) = ask(alloc, account, verb, words)? {
+        return Ok(told);
     }
-    match ask(alloc, account, verb, words)? {
-        Some(told) => Ok(told),
-        None => carry_out_words(alloc, account, verb, words),
+    match verb {
+        "Pull" => pull(alloc, account, words),
+        "Take" => take(alloc, account, words),
+        _ => carry_out_words(alloc, account, verb, words),
     }
 }
 
@@ -55,6 +95,23 @@ fn carry_out_words(
 ) -> Result<String, Fail> {
     let wish = wish(alloc, verb, words)?;
     carry_out(alloc, account, &wish)
+}
+
+/// Takes mails in a room of so many entries and bytes: those that are told behind.
+fn take(alloc: Global, account: &mut Account, words: &[&str]) -> Result<String, Fail> {
+    let room = Room {
+        entries: number(words, 0)?,
+        bytes: number(words, 1)?,
+    };
+    let words = words.get(2..).ok_or("words")?;
+    let mails = mails(alloc, account.pulled(), words)?;
+    if mails.as_slice().len() > 64 {
+        return Err("fewer mails")?;
+    }
+    if !rise(account.pulled(), mails.as_slice()) {
+        return Err("numbers that rise")?;
+    }
+    carry_out(alloc, account, &Wish::Take { mails, room })
 }
 
 /// What a wish comes to, whose entry is made.

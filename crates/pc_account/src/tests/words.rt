@@ -58,7 +58,8 @@ fn shown(alloc: Global, words: &[&str]) -> Result<Shown, Fail> {
     Ok(shown)
 }
 
-/// A message of this size, which is at least 2: lines of 998 bytes, and one that is shorter.
+/// A message of this size, which isn't one past a thousand: lines of 998 bytes, and one that is
+/// shorter.
 pub fn message(alloc: Global, size: u32) -> Result<Message, Fail> {
     let mut lines = Lines::new(alloc);
     let text = [b'x'; 998];

@@ -1,4 +1,4 @@
-use Rattle.std.proofs.Common.{◌≡◌, ◌+◌, ◌++◌, true, false, length, ap, ◌∙◌}
+use Rattle.std.proofs.Common.{◌+◌, ◌++◌, true, false, length, ap, ◌∙◌}
 use Rattle.std.specs.List.{concat, flat_map}
 use Rattle.pc_spelling.specs.Spelling.{u16_field, u64_field, digest_fields, short_list, client_fields, mailbox_fields, subscription_fields}
 use Rattle.pc_account.proofs.Written.{on_ok, all-written, few-live, few-dropped}

@@ -1,4 +1,4 @@
-use Rattle.std.proofs.Common.{◌≡◌, ◌++◌, ap, ◌∙◌}
+use Rattle.std.proofs.Common.{◌++◌, ap, ◌∙◌}
 use Rattle.std.specs.List.{concat}
 use Rattle.pc_spelling.specs.Spelling.{u32_field, short_list, update_list_fields}
 use Rattle.pc_account.proofs.Written.{on_ok, mailbox-written}

@@ -2,7 +2,7 @@ use Rattle.std.proofs.Common.{◌≡◌, ◌≤◌, IsTrue, sym, ap, ◌∙◌, 
 use Rattle.pc_history.specs.History.{◌▸◌}
 use Rattle.pc_history.specs.Legal.{IsCanonical}
 use Rattle.pc_account.specs.State.{State, said, may_follow, step, StandsFor}
-use Rattle.pc_account.proofs.Allowed.{canonical-after}
+use Rattle.pc_account.specs.Following.{canonical-after}
 use Rattle.pc_account.proofs.Standing.{StandsFor-step}
 use Rattle.pc_account.proofs.States.{from-ok}
 use Rattle.pc_account.proofs.account.Account.apply.Goals as goal

@@ -12,7 +12,7 @@ use Rattle.pc_account.specs.Mailboxes.{Table}
 use Rattle.pc_account.specs.State.{State, new_state}
 use Rattle.pc_account.specs.Legal.{IsLegalState, IsCanonicalState}
 use Rattle.pc_account.specs.Numbered.{is_born_before, are_before, is_mailbox_before, are_mailboxes_before, suits, numbered}
-use Rattle.pc_account.proofs.Renumbered.{canonical_numbered}
+use Rattle.pc_account.specs.Renumbered.{canonical_numbered}
 
 -- a state that got a number that suits it is legal
 pub numbered_is_legal : (state : State) (first : ℕ) → IsCanonicalState state → suits state first ≡ true → IsLegalState (numbered state first)

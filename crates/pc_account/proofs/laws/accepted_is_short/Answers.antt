@@ -1,0 +1,5 @@
+use Rattle.pc_account.specs.Following.{accepted_is_short}
+use Rattle.pc_account.proofs.laws.accepted_is_short.Goals as goal
+
+pub returns : goal.returns
+returns c = accepted_is_short

@@ -1,0 +1,5 @@
+use Rattle.pc_account.specs.Following.{step_is_legal}
+use Rattle.pc_account.proofs.laws.step_is_legal.Goals as goal
+
+pub returns : goal.returns
+returns c = step_is_legal
