@@ -1,11 +1,14 @@
 //! What an account allows, and what wishes come to.
 
-ghost use Rattle.std.specs.Prelude.{◌≡◌, not, is_none, None, IsTrue, IfOk, IfSome};
+ghost use Rattle.std.specs.Prelude.{◌≡◌, not, is_none, None, true, IsTrue, IfOk, IfSome};
 ghost use Rattle.pc_history.specs.Allowed.{inbox, is_mailbox, is_client, is_allowed};
 ghost use Rattle.pc_history.specs.History.{History, known};
+ghost use Rattle.pc_history.specs.Known.{Known};
 ghost use Rattle.pc_history.specs.Table.{same};
 ghost use Rattle.pc_account.specs.declared.wish.Wish.TheVariants as wish;
 ghost use Rattle.pc_history.specs.Legal.{IsCanonical};
+ghost use Rattle.pc_spelling.specs.EntryForm.{entry_fits};
+ghost use Rattle.pc_account.specs.Legal.{accepts};
 ghost use Rattle.pc_account.specs.State.{said, StandsFor, may_follow};
 ghost use Rattle.pc_account.specs.Plan.{refused_where, refusal_of, holds, entry_of, planned, IsWish, IsAtOnce};
 ghost use Rattle.pc_account.specs.Answers.{Tells, IsNoMemory};
@@ -22,6 +25,7 @@ use crate::taking::take;
 use crate::wish::{AskFault, Wish};
 use pc_base::{Name, Refusal};
 use pc_history::Entry;
+use pc_spelling::fits;
 use std::alloc::Global;
 
 impl Account {
@@ -43,16 +47,29 @@ impl Account {
 
     /// The entry that a wish comes to, or none where it holds already. Refused is what isn't there,
     /// or is there already, and then the limit that its entry would pass first. Memory is wanted
-    /// only to forget and to take.
+    /// only to forget and to take. A store that holds the account may commit the entry.
     pub fn plan(&self, alloc: Global, wish: &Wish) -> Result<Option<Entry>, AskFault>
         requires { IsWish (said self.now) wish.now }
         ensures exact { Tells (planned (said self.now) wish.now) result }
         ensures allowed { IfOk result (λ plan. IfSome plan (λ entry. IsTrue (may_follow (said self.now) entry))) }
+        ensures accepted { IfOk result (λ plan. IfSome plan (λ entry. IsTrue (accepts self.now entry))) }
         ensures memory { IsAtOnce wish.now → IsNoMemory result }
         ensures history { (h : History) → StandsFor self.now h → Tells (planned (known h) wish.now) result }
     {
-        plan(alloc, &self.holdings, wish)
+        let plan = plan(alloc, &self.holdings, wish);
+        see_that_it_fits(&plan);
+        plan
     }
+}
+
+/// An entry that is allowed fits its fields.
+fn see_that_it_fits(plan: &Result<Option<Entry>, AskFault>)
+    ensures { IfOk plan.now (λ plan. IfSome plan (λ entry. (k : Known) → is_allowed k entry ≡ true → IsTrue (entry_fits entry))) }
+{
+    let Ok(Some(entry)) = plan else {
+        return;
+    };
+    let _ = fits(entry);
 }
 
 fn may_follow(holdings: &Holdings, entry: &Entry) -> bool

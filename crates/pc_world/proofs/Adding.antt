@@ -6,6 +6,7 @@ use Rattle.std.specs.Option.{option_to_list}
 use Rattle.pc_base.specs.declared.failure.Memory.{Memory}
 use Rattle.pc_history.specs.Table.{same}
 use Rattle.pc_history.specs.declared.entry.Entry.{Entry}
+use Rattle.pc_history.proofs.Tables.{same-true}
 use Rattle.pc_world.specs.Account.{Account, history_of}
 use Rattle.pc_world.specs.Repository.{reply_to}
 use Rattle.pc_world.specs.Steps.{Prints, Step, entries_of, printed_reply}
@@ -39,12 +40,20 @@ step_asked user entries entries' name asked found is = by_test (same user name) 
     by_test true found = (refl, ap (λ (shown : List Entry). account shown ∷ []) is)
     by_test false found = absurd (false≢true found)
 
+-- the user of a world who is there has this name
+named_so : (user : List ℕ) (entries : List Entry) (name : List ℕ) → IsTrue (is_some (entries_of (record { user = user; entries = entries } ∷ []) name)) → user ≡ name
+named_so user entries name found = by_test (same user name) refl found
+  where
+    by_test : (b : Bool) → same user name ≡ b → IsTrue (is_some (if b then Some entries else None)) → user ≡ name
+    by_test true e found = same-true user name e
+    by_test false e found = absurd (false≢true found)
+
 pub Prints-asked : {T : Type 0} (result : Result Unit Memory) (old new : List Account) (user user' : Account) (name : List ℕ) (asked : Asked) (Adds : List (List ℕ) → T → Type 0) (now : T)
     → old ≡ accounts_of (Some user)
     → new ≡ accounts_of (Some user')
     → IsTrue (is_some (entries_of old name))
     → user'.user ≡ user.user
-    → OnOk result (Adds (printed_reply name (reply_to (history_of user.entries) asked)) now)
+    → OnOk result (Adds (printed_reply user.user (reply_to (history_of user.entries) asked)) now)
     → OnOk result (user'.entries ≡ user.entries ++ option_to_list (reply_to (history_of user.entries) asked).entry)
     → OnOk result (Prints old (Ask name asked) new Adds now)
 Prints-asked (Err memory) old new user user' name asked Adds now is become found named adds kept = adds
@@ -52,4 +61,6 @@ Prints-asked (Ok done) old new user user' name asked Adds now is become found na
     let P : List Account → Type 0 = λ world. IsTrue (is_some (entries_of world name)) in
     let step = step_asked user.user user.entries user'.entries name asked (subst P is found) kept in
     let shown : new ≡ record { user = user.user; entries = user'.entries } ∷ [] = become ∙ ap (λ (n : List ℕ). record { user = n; entries = user'.entries } ∷ []) named in
-    (printed_reply name (reply_to (history_of user.entries) asked), (rw (is, shown) step, adds))
+    let there : user.user ≡ name = named_so user.user user.entries name (subst P is found) in
+    let reply = reply_to (history_of user.entries) asked in
+    (printed_reply name reply, (rw (is, shown) step, subst (λ (n : List ℕ). Adds (printed_reply n reply) now) there adds))

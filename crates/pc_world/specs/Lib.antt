@@ -1,6 +1,7 @@
 pub mod Account
 pub mod Changes
 pub mod Events
+pub mod Heading
 pub mod Repository
 pub mod Reading
 pub mod Replay

@@ -9,6 +9,7 @@ use Rattle.pc_history.specs.declared.entry.Entry.TheVariants.{MakeMailbox, Passw
 use Rattle.pc_world.specs.declared.event.Event.{Event}
 use Rattle.pc_world.specs.declared.event.Event.TheVariants.{Silent, User, Ask}
 use Rattle.pc_world.specs.Account.{Account, history_of}
+use Rattle.pc_world.specs.Heading.{heading_of}
 use Rattle.pc_world.specs.Repository.{Reply, reply_to}
 
 -- the entries of a new user's account: the password, and the inbox
@@ -30,10 +31,10 @@ abbrev pub indented : List ℕ → List ℕ
 indented line = 32 ∷ 32 ∷ line
 
 abbrev pub shown : List ℕ → List ℕ → List (List ℕ) → List (List ℕ)
-shown user head lines = (codes "ask " ++ user ++ codes ": " ++ head) ∷ map indented lines
+shown heading head lines = (heading ++ head) ∷ map indented lines
 
 abbrev pub printed_reply : List ℕ → Reply → List (List ℕ)
-printed_reply user reply = shown user reply.head reply.lines
+printed_reply user reply = shown (heading_of user) reply.head reply.lines
 
 abbrev pub printed_user : List ℕ → List (List ℕ)
 printed_user name = (codes "user " ++ name ++ codes ": 200 Ok") ∷ []

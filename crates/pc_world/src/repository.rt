@@ -29,19 +29,18 @@ use std::alloc::Global;
 pub(crate) fn answer<T: Transcript>(
     alloc: Global,
     user: &mut User,
-    name: &[u8],
     asked: &Asked,
     transcript: &mut T,
 ) -> Result<(), Memory>
-    ensures prints { OnOk result (T.adds transcript.old (printed_reply name.now (reply_to (history_of user.old.entries) asked.now)) transcript.new) }
+    ensures prints { OnOk result (T.adds transcript.old (printed_reply user.old.user (reply_to (history_of user.old.entries) asked.now)) transcript.new) }
     ensures user { user.new.user ≡ user.old.user }
     ensures entry { OnOk result (user.new.entries ≡ user.old.entries ++ option_to_list (reply_to (history_of user.old.entries) asked.now).entry) }
     ensures err { OnErr result (T.keeps transcript.old transcript.new) }
 {
     match asked {
-        Asked::TooLong => refuse(alloc, name, &Refusal::LineTooLong, transcript),
-        Asked::Faulty(fault) => refuse(alloc, name, &refusal_of(fault), transcript),
-        Asked::Read(request) => answer_request(alloc, user, name, request, transcript),
+        Asked::TooLong => refuse(alloc, user, &Refusal::LineTooLong, transcript),
+        Asked::Faulty(fault) => refuse(alloc, user, &refusal_of(fault), transcript),
+        Asked::Read(request) => answer_request(alloc, user, request, transcript),
     }
 }
 
@@ -50,26 +49,25 @@ pub(crate) fn answer<T: Transcript>(
 pub(crate) fn answer_text<T: Transcript>(
     alloc: Global,
     user: &mut User,
-    name: &[u8],
     text: &[u8],
     transcript: &mut T,
 ) -> Result<(), Memory>
     ensures asked { (asked : AskedValue) × (IsAsked text.now asked
-        × OnOk result (T.adds transcript.old (printed_reply name.now (reply_to (history_of user.old.entries) asked)) transcript.new)
+        × OnOk result (T.adds transcript.old (printed_reply user.old.user (reply_to (history_of user.old.entries) asked)) transcript.new)
         × OnOk result (user.new.entries ≡ user.old.entries ++ option_to_list (reply_to (history_of user.old.entries) asked).entry)) }
     ensures user { user.new.user ≡ user.old.user }
     ensures err { OnErr result (T.keeps transcript.old transcript.new) }
 {
     if text.len() > MOST_REQUEST {
-        return refuse(alloc, name, &Refusal::LineTooLong, transcript);
+        return refuse(alloc, user, &Refusal::LineTooLong, transcript);
     }
     let Some((operation, words)) = Operation::called(text) else {
-        return refuse(alloc, name, &Refusal::UnknownOperation, transcript);
+        return refuse(alloc, user, &Refusal::UnknownOperation, transcript);
     };
     match operation {
-        Operation::CreateMailbox => answer_create_mailbox(alloc, user, name, words, transcript),
-        Operation::ListMailboxes => answer_list_mailboxes(alloc, user, name, words, transcript),
-        _ => answer_read(alloc, user, name, text, transcript),
+        Operation::CreateMailbox => answer_create_mailbox(alloc, user, words, transcript),
+        Operation::ListMailboxes => answer_list_mailboxes(alloc, user, words, transcript),
+        _ => answer_read(alloc, user, text, transcript),
     }
 }
 
@@ -79,21 +77,20 @@ pub(crate) fn answer_text<T: Transcript>(
 fn answer_read<T: Transcript>(
     alloc: Global,
     user: &mut User,
-    name: &[u8],
     text: &[u8],
     transcript: &mut T,
 ) -> Result<(), Memory>
     requires { length text.now ≤ 512 }
     ensures asked { (asked : AskedValue) × (IsAsked text.now asked
-        × OnOk result (T.adds transcript.old (printed_reply name.now (reply_to (history_of user.old.entries) asked)) transcript.new)
+        × OnOk result (T.adds transcript.old (printed_reply user.old.user (reply_to (history_of user.old.entries) asked)) transcript.new)
         × OnOk result (user.new.entries ≡ user.old.entries ++ option_to_list (reply_to (history_of user.old.entries) asked).entry)) }
     ensures user { user.new.user ≡ user.old.user }
     ensures err { OnErr result (T.keeps transcript.old transcript.new) }
 {
     let read = Request::read(text);
     match &read {
-        Ok(request) => answer_request(alloc, user, name, request, transcript),
-        Err(fault) => refuse(alloc, name, &refusal_of(fault), transcript),
+        Ok(request) => answer_request(alloc, user, request, transcript),
+        Err(fault) => refuse(alloc, user, &refusal_of(fault), transcript),
     }
 }
 
@@ -101,20 +98,19 @@ fn answer_read<T: Transcript>(
 fn answer_create_mailbox<T: Transcript>(
     alloc: Global,
     user: &mut User,
-    name: &[u8],
     words: &[u8],
     transcript: &mut T,
 ) -> Result<(), Memory>
     ensures asked { (asked : AskedValue) × (((text : List ℕ) → IsCall operation.CreateMailbox words.now text → IsAsked text asked)
-        × OnOk result (T.adds transcript.old (printed_reply name.now (reply_to (history_of user.old.entries) asked)) transcript.new)
+        × OnOk result (T.adds transcript.old (printed_reply user.old.user (reply_to (history_of user.old.entries) asked)) transcript.new)
         × OnOk result (user.new.entries ≡ user.old.entries ++ option_to_list (reply_to (history_of user.old.entries) asked).entry)) }
     ensures user { user.new.user ≡ user.old.user }
     ensures err { OnErr result (T.keeps transcript.old transcript.new) }
 {
     let read = one_name(words);
     match &read {
-        Ok(mailbox) => create_mailbox(alloc, user, name, mailbox, transcript),
-        Err(fault) => refuse(alloc, name, &refusal_of(fault), transcript),
+        Ok(mailbox) => create_mailbox(alloc, user, mailbox, transcript),
+        Err(fault) => refuse(alloc, user, &refusal_of(fault), transcript),
     }
 }
 
@@ -122,20 +118,19 @@ fn answer_create_mailbox<T: Transcript>(
 fn answer_list_mailboxes<T: Transcript>(
     alloc: Global,
     user: &mut User,
-    name: &[u8],
     words: &[u8],
     transcript: &mut T,
 ) -> Result<(), Memory>
     ensures asked { (asked : AskedValue) × (((text : List ℕ) → IsCall operation.ListMailboxes words.now text → IsAsked text asked)
-        × OnOk result (T.adds transcript.old (printed_reply name.now (reply_to (history_of user.old.entries) asked)) transcript.new)
+        × OnOk result (T.adds transcript.old (printed_reply user.old.user (reply_to (history_of user.old.entries) asked)) transcript.new)
         × OnOk result (user.new.entries ≡ user.old.entries ++ option_to_list (reply_to (history_of user.old.entries) asked).entry)) }
     ensures user { user.new.user ≡ user.old.user }
     ensures err { OnErr result (T.keeps transcript.old transcript.new) }
 {
     let read = no_arguments(words);
     match &read {
-        Ok(()) => list_mailboxes(alloc, user, name, transcript),
-        Err(fault) => refuse(alloc, name, &refusal_of(fault), transcript),
+        Ok(()) => list_mailboxes(alloc, user, transcript),
+        Err(fault) => refuse(alloc, user, &refusal_of(fault), transcript),
     }
 }
 
@@ -143,21 +138,20 @@ fn answer_list_mailboxes<T: Transcript>(
 fn answer_request<T: Transcript>(
     alloc: Global,
     user: &mut User,
-    name: &[u8],
     request: &Request,
     transcript: &mut T,
 ) -> Result<(), Memory>
-    ensures prints { OnOk result (T.adds transcript.old (printed_reply name.now (reply_to_request (history_of user.old.entries) request.now)) transcript.new) }
+    ensures prints { OnOk result (T.adds transcript.old (printed_reply user.old.user (reply_to_request (history_of user.old.entries) request.now)) transcript.new) }
     ensures user { user.new.user ≡ user.old.user }
     ensures entry { OnOk result (user.new.entries ≡ user.old.entries ++ option_to_list (reply_to_request (history_of user.old.entries) request.now).entry) }
     ensures err { OnErr result (T.keeps transcript.old transcript.new) }
 {
     match request {
         Request::CreateMailbox { mailbox } => {
-            create_mailbox(alloc, user, name, mailbox, transcript)
+            create_mailbox(alloc, user, mailbox, transcript)
         }
-        Request::ListMailboxes => list_mailboxes(alloc, user, name, transcript),
-        _ => refuse(alloc, name, &Refusal::UnknownOperation, transcript),
+        Request::ListMailboxes => list_mailboxes(alloc, user, transcript),
+        _ => refuse(alloc, user, &Refusal::UnknownOperation, transcript),
     }
 }
 
@@ -165,19 +159,18 @@ fn answer_request<T: Transcript>(
 fn create_mailbox<T: Transcript>(
     alloc: Global,
     user: &mut User,
-    name: &[u8],
     mailbox: &Name,
     transcript: &mut T,
 ) -> Result<(), Memory>
-    ensures prints { OnOk result (T.adds transcript.old (printed_reply name.now (reply_to_plan (planned (known (history_of user.old.entries)) (wish.MakeMailbox mailbox.now)))) transcript.new) }
+    ensures prints { OnOk result (T.adds transcript.old (printed_reply user.old.user (reply_to_plan (planned (known (history_of user.old.entries)) (wish.MakeMailbox mailbox.now)))) transcript.new) }
     ensures user { user.new.user ≡ user.old.user }
     ensures entry { OnOk result (user.new.entries ≡ user.old.entries ++ option_to_list (reply_to_plan (planned (known (history_of user.old.entries)) (wish.MakeMailbox mailbox.now))).entry) }
     ensures err { OnErr result (T.keeps transcript.old transcript.new) }
 {
     if user.has_mailbox(mailbox) {
-        return refuse(alloc, name, &Refusal::MailboxExists, transcript);
+        return refuse(alloc, user, &Refusal::MailboxExists, transcript);
     }
-    make_mailbox(alloc, user, name, mailbox, transcript)
+    make_mailbox(alloc, user, mailbox, transcript)
 }
 
 /// Replies to a wish for a new mailbox. Out of line, so that other requests don't pay for the wish.
@@ -185,36 +178,34 @@ fn create_mailbox<T: Transcript>(
 fn make_mailbox<T: Transcript>(
     alloc: Global,
     user: &mut User,
-    name: &[u8],
     mailbox: &Name,
     transcript: &mut T,
 ) -> Result<(), Memory>
-    ensures prints { OnOk result (T.adds transcript.old (printed_reply name.now (reply_to_plan (planned (known (history_of user.old.entries)) (wish.MakeMailbox mailbox.now)))) transcript.new) }
+    ensures prints { OnOk result (T.adds transcript.old (printed_reply user.old.user (reply_to_plan (planned (known (history_of user.old.entries)) (wish.MakeMailbox mailbox.now)))) transcript.new) }
     ensures user { user.new.user ≡ user.old.user }
     ensures entry { OnOk result (user.new.entries ≡ user.old.entries ++ option_to_list (reply_to_plan (planned (known (history_of user.old.entries)) (wish.MakeMailbox mailbox.now))).entry) }
     ensures err { OnErr result (T.keeps transcript.old transcript.new) }
 {
     let wish = Wish::MakeMailbox { mailbox: *mailbox };
-    change(alloc, user, name, &wish, transcript)
+    change(alloc, user, &wish, transcript)
 }
 
 /// Replies to a request that changes.
 fn change<T: Transcript>(
     alloc: Global,
     user: &mut User,
-    name: &[u8],
     wish: &Wish,
     transcript: &mut T,
 ) -> Result<(), Memory>
     requires { (k : Known) → IsWish k wish.now }
-    ensures prints { OnOk result (T.adds transcript.old (printed_reply name.now (reply_to_plan (planned (known (history_of user.old.entries)) wish.now))) transcript.new) }
+    ensures prints { OnOk result (T.adds transcript.old (printed_reply user.old.user (reply_to_plan (planned (known (history_of user.old.entries)) wish.now))) transcript.new) }
     ensures user { user.new.user ≡ user.old.user }
     ensures entry { OnOk result (user.new.entries ≡ user.old.entries ++ option_to_list (reply_to_plan (planned (known (history_of user.old.entries)) wish.now)).entry) }
     ensures err { OnErr result (T.keeps transcript.old transcript.new) }
 {
     match user.change(alloc, wish) {
-        Ok(()) => transcript.print_reply(alloc, name, b"200 Ok", &[]),
-        Err(AskFault::Refused(refusal)) => refuse(alloc, name, &refusal, transcript),
+        Ok(()) => transcript.print_reply(alloc, user.heading(), b"200 Ok", &[]),
+        Err(AskFault::Refused(refusal)) => refuse(alloc, user, &refusal, transcript),
         Err(AskFault::Memory) => Err(Memory),
     }
 }
@@ -224,31 +215,30 @@ fn change<T: Transcript>(
 fn list_mailboxes<T: Transcript>(
     alloc: Global,
     user: &User,
-    name: &[u8],
     transcript: &mut T,
 ) -> Result<(), Memory>
-    ensures ok { OnOk result (T.adds transcript.old (printed_reply name.now (reply_to_answer (answered (known (history_of user.now.entries)) question.Mailboxes))) transcript.new) }
+    ensures ok { OnOk result (T.adds transcript.old (printed_reply user.now.user (reply_to_answer (answered (known (history_of user.now.entries)) question.Mailboxes))) transcript.new) }
     ensures err { OnErr result (T.keeps transcript.old transcript.new) }
 {
     let Ok(Answer::Mailboxes(rows)) = user.answer(alloc, &Question::Mailboxes) else {
         return Err(Memory);
     };
-    transcript.print_reply(alloc, name, b"201 List follows", rows.as_slice())
+    transcript.print_reply(alloc, user.heading(), b"201 List follows", rows.as_slice())
 }
 
 /// Replies with a refusal. A head that is fixed is printed as it stands.
 #[inline]
 fn refuse<T: Transcript>(
     alloc: Global,
-    user: &[u8],
+    user: &User,
     refusal: &Refusal,
     transcript: &mut T,
 ) -> Result<(), Memory>
-    ensures ok { OnOk result (T.adds transcript.old (printed_reply user.now (refused (head_of refusal.now))) transcript.new) }
+    ensures ok { OnOk result (T.adds transcript.old (printed_reply user.now.user (refused (head_of refusal.now))) transcript.new) }
     ensures err { OnErr result (T.keeps transcript.old transcript.new) }
 {
     match refusal.fixed_head() {
-        Some(head) => transcript.print_reply(alloc, user, head, &[]),
+        Some(head) => transcript.print_reply(alloc, user.heading(), head, &[]),
         None => refuse_with_more(alloc, user, refusal, transcript),
     }
 }
@@ -258,15 +248,15 @@ fn refuse<T: Transcript>(
 #[inline(never)]
 fn refuse_with_more<T: Transcript>(
     alloc: Global,
-    user: &[u8],
+    user: &User,
     refusal: &Refusal,
     transcript: &mut T,
 ) -> Result<(), Memory>
-    ensures ok { OnOk result (T.adds transcript.old (printed_reply user.now (refused (head_of refusal.now))) transcript.new) }
+    ensures ok { OnOk result (T.adds transcript.old (printed_reply user.now.user (refused (head_of refusal.now))) transcript.new) }
     ensures err { OnErr result (T.keeps transcript.old transcript.new) }
 {
     let head = refusal.head();
-    transcript.print_reply(alloc, user, head.bytes(), &[])
+    transcript.print_reply(alloc, user.heading(), head.bytes(), &[])
 }
 
 fn refusal_of(fault: &RequestFault) -> Refusal

@@ -26,15 +26,15 @@ pub(crate) trait Transcript {
         ensures ok { OnOk result (adds self.old (printed_user name.now) self.new) }
         ensures err { OnErr result (keeps self.old self.new) };
 
-    /// Prints a reply to a user: its head, and a line for each mailbox of its list.
+    /// Prints a reply behind the heading of its user: its head, and a line for each mailbox of its list.
     fn print_reply(
         &mut self,
         alloc: Global,
-        user: &[u8],
+        heading: &[u8],
         head: &[u8],
         rows: &[MailboxRow],
     ) -> Result<(), Memory>
-        ensures ok { OnOk result (adds self.old (shown user.now head.now (lines_of rows.now)) self.new) }
+        ensures ok { OnOk result (adds self.old (shown heading.now head.now (lines_of rows.now)) self.new) }
         ensures err { OnErr result (keeps self.old self.new) };
 
     /// No lines may be put behind it, and then it is as before.
@@ -62,12 +62,12 @@ impl Transcript for Printed {
     fn print_reply(
         &mut self,
         alloc: Global,
-        user: &[u8],
+        heading: &[u8],
         head: &[u8],
         rows: &[MailboxRow],
     ) -> Result<(), Memory> {
         let mut line = Vec::new(alloc);
-        append_head(&mut line, user, head)?;
+        append_head(&mut line, heading, head)?;
         push_line(self, alloc, &line)?;
         for row in rows {
             line.clear();
@@ -104,11 +104,11 @@ impl Transcript for Vec<u8> {
     fn print_reply(
         &mut self,
         _alloc: Global,
-        user: &[u8],
+        heading: &[u8],
         head: &[u8],
         rows: &[MailboxRow],
     ) -> Result<(), Memory> {
-        append_head(self, user, head)?;
+        append_head(self, heading, head)?;
         self.push(b'\n')?;
         print_rows(self, rows)
     }
@@ -146,12 +146,10 @@ fn append_user(text: &mut Vec<u8>, name: &Name) -> Result<(), Memory>
 }
 
 /// Puts the first line of a reply behind the text.
-fn append_head(text: &mut Vec<u8>, user: &[u8], head: &[u8]) -> Result<(), Memory>
-    ensures { Adds text.old.items text.new.items (codes "ask " ++ user.now ++ codes ": " ++ head.now) result }
+fn append_head(text: &mut Vec<u8>, heading: &[u8], head: &[u8]) -> Result<(), Memory>
+    ensures { Adds text.old.items text.new.items (heading.now ++ head.now) result }
 {
-    text.extend_from_slice(b"ask ")?;
-    text.extend_from_slice(user)?;
-    text.extend_from_slice(b": ")?;
+    text.extend_from_slice(heading)?;
     text.extend_from_slice(head)?;
     Ok(())
 }

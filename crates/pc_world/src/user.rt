@@ -9,6 +9,7 @@ ghost use Rattle.pc_account.specs.Plan.{IsWish, planned};
 ghost use Rattle.pc_account.specs.State.{StandsFor, may_follow, said, step};
 ghost use Rattle.pc_world.specs.Account.{history_of};
 ghost use Rattle.pc_world.specs.Changes.{Changes};
+ghost use Rattle.pc_world.specs.Heading.{heading_of};
 ghost use Rattle.pc_world.specs.Steps.{enrolled};
 
 use pc_account::{Account, Answer, AskFault, Entry, Question, Wish, digest};
@@ -21,19 +22,23 @@ use std::marker::Model;
 #[derive(Drop)]
 pub(crate) struct User {
     name: Name,
+    // kept, so that a reply puts it down at once
+    heading: Vec<u8>,
     account: Account,
     entries: Vec<Entry>,
 }
 
 impl Model for User {
+    ghost use Rattle.std.specs.Prelude.{◌≡◌};
     ghost use Rattle.pc_account.specs.State.{StandsFor};
     ghost use Rattle.pc_world.specs.Account.{Account as Kept, history_of};
+    ghost use Rattle.pc_world.specs.Heading.{heading_of};
 
     ghost Value = { Kept };
 
     ghost view = { λ user. record { user = user.name; entries = user.entries.items } };
 
-    ghost invariant = { λ user. StandsFor user.account (history_of user.entries.items) };
+    ghost invariant = { λ user. StandsFor user.account (history_of user.entries.items) × (user.heading.items ≡ heading_of user.name) };
 }
 
 impl User {
@@ -49,8 +54,10 @@ impl User {
         let mailbox = Name::read(b"inbox").unwrap();
         let inbox = Entry::MakeMailbox { mailbox };
         keep(alloc, &mut account, &mut entries, inbox)?;
+        let heading = heading(alloc, name)?;
         Ok(User {
             name: *name,
+            heading,
             account,
             entries,
         })
@@ -61,6 +68,13 @@ impl User {
         ensures { result.now ≡ self.now.user }
     {
         &self.name
+    }
+
+    /// What is in front of each reply to the user.
+    pub(crate) fn heading(&self) -> &[u8]
+        ensures { result.now ≡ heading_of self.now.user }
+    {
+        self.heading.as_slice()
     }
 
     /// Whether the user has a mailbox of this name.
@@ -90,6 +104,17 @@ impl User {
         }
         Ok(())
     }
+}
+
+/// What is in front of each reply to a user of this name.
+fn heading(alloc: Global, name: &Name) -> Result<Vec<u8>, Memory>
+    ensures { IfOk result (λ heading. heading.items ≡ heading_of name.now) }
+{
+    let mut heading = Vec::new(alloc);
+    heading.extend_from_slice(b"ask ")?;
+    heading.extend_from_slice(name.bytes())?;
+    heading.extend_from_slice(b": ")?;
+    Ok(heading)
 }
 
 /// Makes the step of an entry, and puts the entry behind the others. After `Err` neither is used

@@ -135,7 +135,7 @@ impl World {
         let Some(user) = &mut self.user else {
             unreachable!();
         };
-        answer(alloc, user, name.bytes(), asked, transcript)
+        answer(alloc, user, asked, transcript)
     }
 
     /// Plays what a user asks with a text, who is there. After `Err` the world isn't used again.
@@ -153,6 +153,6 @@ impl World {
         let Some(user) = &mut self.user else {
             unreachable!();
         };
-        answer_text(alloc, user, name, text, transcript)
+        answer_text(alloc, user, text, transcript)
     }
 }

@@ -3,6 +3,7 @@ use Rattle.pc_history.specs.Known.{Known}
 use Rattle.pc_account.specs.State.{State, said}
 use Rattle.pc_account.specs.Plan.{planned}
 use Rattle.pc_account.specs.Answers.{Tells}
+use Rattle.pc_account.proofs.Accepted.{plan-accepted}
 use Rattle.pc_account.proofs.Standing.{said_is_known}
 use Rattle.pc_account.proofs.Settling.{plan-follows}
 use Rattle.pc_account.proofs.account.Account.plan.Goals as goal
@@ -12,3 +13,6 @@ returns-clause-history c = λ h stands. subst (λ (k : Known). Tells (planned k 
 
 pub returns-clause-allowed : goal.returns-clause-allowed
 returns-clause-allowed c = plan-follows (said c.args.self.now) c.args.wish.now c.requires c.plan.result (subst (λ (s : State). Tells (planned (said s) c.args.wish.now) c.plan.result) c.self.view_is c.plan.ensures.exact)
+
+pub returns-clause-accepted : goal.returns-clause-accepted
+returns-clause-accepted c = plan-accepted c.args.self.now c.args.wish.now c.requires c.plan.result (subst (λ (s : State). Tells (planned (said s) c.args.wish.now) c.plan.result) c.self.view_is c.plan.ensures.exact) c.see_that_it_fits.ensures

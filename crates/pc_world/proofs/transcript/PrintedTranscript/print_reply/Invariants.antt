@@ -5,4 +5,4 @@ use Rattle.pc_world.specs.Steps.{shown}
 use Rattle.pc_world.proofs.transcript.PrintedTranscript.print_reply.Given as goal
 
 abbrev pub invariant-loop-row : goal.invariant-loop-row
-invariant-loop-row l = l.self ≡ l.fn.self ++ shown l.user l.head (lines_of (take l.row-index l.rows))
+invariant-loop-row l = l.self ≡ l.fn.self ++ shown l.heading l.head (lines_of (take l.row-index l.rows))

@@ -10,12 +10,12 @@ use Rattle.pc_world.proofs.user.User.change.Goals.{in-Some+in_ok-keep, in_defaul
 pub returns-in_err-plan-clause-entries : goal.returns-in_err-plan-clause-entries
 returns-in_err-plan-clause-entries c =
     let same : c.from_residual.result ≡ Err c.in_err-plan.field-0.0 = search rules in
-    let told = tells_seen c.self.inside.name c.self.inside.entries.items c.args.self.now c.args.wish.now (Err c.in_err-plan.field-0.0) c.self.view_is (c.in_err-plan.ensures.history (history_of c.self.inside.entries.items) c.self.invariant) in
+    let told = tells_seen c.self.inside.name c.self.inside.entries.items c.args.self.now c.args.wish.now (Err c.in_err-plan.field-0.0) c.self.view_is (c.in_err-plan.ensures.history (history_of c.self.inside.entries.items) c.self.invariant.0) in
     rw same (changes_refused c.args.self.now.entries (planned (known (history_of c.args.self.now.entries)) c.args.wish.now) c.in_err-plan.field-0.0 told)
 
 pub returns-clause-entries : goal.returns-clause-entries
 returns-clause-entries c =
-    let told = tells_seen c.self.inside.name c.self.inside.entries.items c.args.self.now c.args.wish.now (Ok c.in_ok-plan.plan) c.self.view_is (c.in_ok-plan.ensures.history (history_of c.self.inside.entries.items) c.self.invariant) in
+    let told = tells_seen c.self.inside.name c.self.inside.entries.items c.args.self.now c.args.wish.now (Ok c.in_ok-plan.plan) c.self.view_is (c.in_ok-plan.ensures.history (history_of c.self.inside.entries.items) c.self.invariant.0) in
     let seen = ap (λ (user : Account). user.entries) c.self.view_is in
     changes_kept c.args.self.now.entries c.match-plan.self.entries (planned (known (history_of c.args.self.now.entries)) c.args.wish.now) c.in_ok-plan.plan told
     (elim c.match-plan.branch [
