@@ -9,9 +9,9 @@ use Rattle.pc_spelling.specs.EntryForm.{entry_fits}
 use Rattle.pc_account.specs.declared.wish.AskFault.{AskFault}
 use Rattle.pc_account.specs.declared.wish.Wish.{Wish}
 use Rattle.pc_account.specs.Answers.{Tells}
-use Rattle.pc_account.specs.Legal.{accepts}
+use Rattle.pc_records.specs.Legal.{accepts}
 use Rattle.pc_account.specs.Plan.{planned, IsWish}
-use Rattle.pc_account.specs.State.{State, said, may_follow}
+use Rattle.pc_holdings.specs.State.{State, said, may_follow}
 use Rattle.pc_account.proofs.Settling.{planned-follows}
 
 -- the entry of a plan fits its fields wherever it is allowed

@@ -21,7 +21,7 @@ use Rattle.pc_history.proofs.FormedAfter.{IsWellFormed-after}
 use Rattle.pc_history.proofs.Agreement.{after-said_by}
 use Rattle.pc_history.proofs.Counts.{messages-said_by, lists-counted}
 use Rattle.pc_history.proofs.Mailboxes.{box_by, mailbox_of-after, IsMailbox-mailbox_of}
-use Rattle.pc_account.specs.Mailboxes.{listed_in}
+use Rattle.pc_holdings.specs.Mailboxes.{listed_in}
 use Rattle.pc_account.specs.Limits.{limit_where, parcels_to, weight_in, has_uids, has_places, limit_of_parcels}
 use Rattle.pc_account.proofs.Changed.{distinct-front}
 use Rattle.pc_account.proofs.Spread.{total-alike, total-sum, total-times, total-ones, spread, names-pass}

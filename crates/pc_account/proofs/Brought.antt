@@ -23,7 +23,7 @@ use Rattle.pc_history.proofs.Uids.{has_number-numbers, within-below, Every-numbe
 use Rattle.pc_history.proofs.Boxes.{touched-none, touched-twice}
 use Rattle.pc_history.proofs.Mailboxes.{with_mails, IsMailbox-mailbox_of}
 use Rattle.pc_mailbox.specs.UpdateList.{Rise}
-use Rattle.pc_account.specs.Mailboxes.{listed_in}
+use Rattle.pc_holdings.specs.Mailboxes.{listed_in}
 use Rattle.pc_account.specs.Limits.{parcel_of, parcels_to, weight_in, limit_of_parcels}
 use Rattle.pc_account.proofs.Touched.{missing, lists-apart, touched-for-all, unlisted-above}
 use Rattle.pc_account.proofs.Changed.{listed-with_message}

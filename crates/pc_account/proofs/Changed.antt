@@ -27,7 +27,7 @@ use Rattle.pc_mailbox.proofs.Holds.{length-uids}
 use Rattle.pc_mailbox.specs.UpdateList.{takers_of}
 use Rattle.pc_mailbox.specs.Mailbox.{is_deleted}
 use Rattle.pc_mailbox.specs.Growth.{unlisted, unlisted_by_all, unlisted_for}
-use Rattle.pc_account.specs.Mailboxes.{listed_in, listed_held}
+use Rattle.pc_holdings.specs.Mailboxes.{listed_in, listed_held}
 use Rattle.pc_account.proofs.Touched.{Apart, lists-apart, lists-length, touched-length, stamped-length, touched-for-all, missing-deleted, missing-whole, missing-all, missing-one, missing-next}
 use Rattle.pc_account.proofs.TableSums.{sum-set_value, sum-others, sum-map_values, set_value-absent, Every-lookup, none-from}
 use Rattle.pc_account.proofs.Found.{live-found}

@@ -19,7 +19,7 @@ use Rattle.pc_account.specs.declared.wish.AskFault.TheVariants.{Refused}
 use Rattle.pc_account.specs.declared.wish.Wish.{Wish}
 use Rattle.pc_account.specs.declared.wish.Wish.TheVariants as wish
 use Rattle.pc_account.specs.Plan.{refused_where, refusal_of, holds, entry_of, within_limits, planned, IsWish}
-use Rattle.pc_account.specs.State.{may_follow}
+use Rattle.pc_holdings.specs.State.{may_follow}
 use Rattle.pc_account.specs.Answers.{Tells}
 use Rattle.pc_account.proofs.TakenAllowed.{forget-allowed}
 use Rattle.pc_account.proofs.Waiting.{front-allowed}

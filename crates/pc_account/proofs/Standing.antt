@@ -7,8 +7,8 @@ use Rattle.pc_history.specs.Allowed.{is_allowed}
 use Rattle.pc_history.specs.Limits.{limit_passed}
 use Rattle.pc_history.specs.Step.{after}
 use Rattle.pc_history.proofs.Histories.{Stands-legal}
-use Rattle.pc_account.specs.State.{State, said, StandsFor, may_follow, step}
-use Rattle.pc_account.specs.Following.{may-parts}
+use Rattle.pc_holdings.specs.State.{State, said, StandsFor, may_follow, step}
+use Rattle.pc_holdings.specs.Following.{may-parts}
 
 pub said_is_known : (s : State) (h : History) → StandsFor s h → said s ≡ known h
 said_is_known s h stands = (λ i. said_by (sym stands.held i) (sym stands.next i)) ∙ sym (Stands-legal h stands.legal).alike

@@ -1,38 +1,19 @@
--- What holds of an entry that may come next.
-use Rattle.std.proofs.Common.{◌≡◌, suc, ◌<◌, ◌≤◌, true, IsTrue, is_none, length, Option, None, Some, refl, sym, arith, true≢false}
+-- What holds of an entry that a store accepts.
+use Rattle.std.proofs.Common.{◌≡◌, ◌<◌, ◌≤◌, true, length, arith}
 use Rattle.std.proofs.lemmas.Bool.{and_parts}
 use Rattle.pc_history.specs.declared.entry.Entry.{Entry}
 use Rattle.pc_history.specs.declared.entry.Entry.TheVariants.{MakeMailbox, Forget}
 use Rattle.pc_history.specs.declared.limits.TheConstants.{MOST_CHANGES}
-use Rattle.pc_history.specs.Known.{Known}
-use Rattle.pc_history.specs.History.{start, ◌▸◌}
 use Rattle.pc_history.specs.Allowed.{is_allowed}
-use Rattle.pc_history.specs.Limits.{limit_passed}
-use Rattle.pc_history.specs.Legal.{IsCanonical}
-use Rattle.pc_history.specs.Step.{after}
-use Rattle.pc_history.proofs.Within.{IsCanonical-legal}
 use Rattle.pc_spelling.specs.Spelling.{spelled_entry}
 use Rattle.pc_spelling.specs.EntryForm.{entry_fits}
 use Rattle.pc_spelling.specs.Laws.{forgotten}
 use Rattle.pc_spelling.proofs.EntryLaws.{entry-is-short}
 use Rattle.pc_spelling.proofs.ForgetSize.{forget_few}
 use Rattle.pc_spelling.proofs.FitsAfter.{step_fits}
-use Rattle.pc_account.specs.State.{State, said, may_follow, step}
-use Rattle.pc_account.specs.Legal.{IsLegalState, accepts}
-
-none-from : {X : Type 0} (o : Option X) → is_none o ≡ true → o ≡ None
-none-from None h = refl
-none-from (Some x) h = absurd (true≢false (sym h))
-
--- it is allowed and passes no limit
-pub may-parts : (k : Known) (e : Entry) → IsTrue (may_follow k e) → (is_allowed k e ≡ true) × (limit_passed k e ≡ None)
-may-parts k e h = let parts = and_parts (is_allowed k e) (is_none (limit_passed k e)) h in (parts.0, none-from (limit_passed k e) parts.1)
-
--- the record after it is canonical
-pub canonical-after : (s : State) (e : Entry) → IsCanonical s.held s.next → IsTrue (may_follow (said s) e) → IsCanonical (after s.held s.next e) (suc s.next)
-canonical-after s e canonical h = let parts = may-parts (said s) e h in IsCanonical-legal (start s.held s.next ▸ e) (canonical, parts.0, parts.1)
-
--- ---- and fits its fields
+use Rattle.pc_holdings.specs.State.{State, said, may_follow, step}
+use Rattle.pc_holdings.specs.Following.{may-parts, canonical-after}
+use Rattle.pc_records.specs.Legal.{IsLegalState, accepts}
 
 pub accepts-parts : (state : State) (entry : Entry) → accepts state entry ≡ true → (may_follow (said state) entry ≡ true) × (entry_fits entry ≡ true)
 accepts-parts state entry accepted = and_parts (may_follow (said state) entry) (entry_fits entry) accepted

@@ -3,9 +3,9 @@ use Rattle.std.specs.Prelude.{◌≡◌, ℕ, ◌^◌, ◌<◌, ◌≤◌, true,
 use Rattle.pc_history.specs.declared.entry.Entry.{Entry}
 use Rattle.pc_spelling.specs.Spelling.{spelled_entry, spelled_record}
 use Rattle.pc_spelling.specs.RecordForm.{IsRecordFault}
-use Rattle.pc_account.specs.State.{State, new_state, step}
-use Rattle.pc_account.specs.Legal.{IsLegalState, IsCanonicalState, accepts}
-use Rattle.pc_account.specs.Numbered.{suits, numbered}
+use Rattle.pc_holdings.specs.State.{State, new_state, step}
+use Rattle.pc_records.specs.Legal.{IsLegalState, IsCanonicalState, accepts}
+use Rattle.pc_records.specs.Numbered.{suits, numbered}
 
 -- a state that got a number that suits it is legal
 abbrev pub NumberedIsLegal : Type 0

@@ -2,16 +2,7 @@ pub mod Answers
 pub mod Digest
 pub mod Limits
 pub mod LookUps
-pub mod Mailboxes
 pub mod Plan
-pub mod ReadList
-pub mod State
 pub mod Taking
-pub mod Saving
-pub mod Numbered
-pub mod Legal
 pub mod Laws
-pub mod Renumbered
 pub mod Following
-pub mod Recorded
-pub mod Loading

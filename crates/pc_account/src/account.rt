@@ -1,15 +1,21 @@
 //! The account of one user.
 
-ghost use Rattle.std.specs.Prelude.{◌≡◌, ◌≤◌, ◌-◌, ◌^◌, false, IsTrue, OnOk, OnErr, IfOk};
+ghost use Rattle.std.specs.Prelude.{◌≡◌, ◌<◌, ◌≤◌, ◌-◌, ◌^◌, ◌++◌, length, false, IsTrue, OnOk, OnErr, IfOk, if◌then◌else◌};
 ghost use Rattle.std.specs.Option.{option_map_or};
 ghost use Rattle.std.specs.Map.{lookup};
+ghost use Rattle.pc_base.specs.Machine.{FaultAt};
 ghost use Rattle.pc_history.specs.Table.{same};
 ghost use Rattle.pc_history.specs.History.{History, ◌▸◌, known, birth, next};
-ghost use Rattle.pc_account.specs.State.{new_state, said, StandsFor, may_follow, step};
+ghost use Rattle.pc_spelling.specs.Spelling.{spelled_record};
+ghost use Rattle.pc_spelling.specs.RecordForm.{IsRecordFault};
+ghost use Rattle.pc_holdings.specs.State.{new_state, said, StandsFor, may_follow, step};
+ghost use Rattle.pc_records.specs.Legal.{IsCanonicalState};
+ghost use Rattle.pc_records.specs.Numbered.{suits, numbered};
 
-use crate::holdings::Holdings;
-use pc_base::{Memory, Name};
+use pc_base::{Bytes, Memory, Name, ReadFault};
 use pc_history::Entry;
+use pc_holdings::Holdings;
+use pc_records::{load, save, suits};
 use std::alloc::Global;
 use std::marker::Model;
 
@@ -22,7 +28,7 @@ pub struct Account {
 impl Model for Account {
     ghost use Rattle.std.specs.Prelude.{◌≤◌, ◌^◌};
     ghost use Rattle.pc_history.specs.Legal.{IsCanonical};
-    ghost use Rattle.pc_account.specs.State.{State};
+    ghost use Rattle.pc_holdings.specs.State.{State};
 
     ghost Value = { State };
 
@@ -90,5 +96,42 @@ impl Account {
         ensures history { (h : History) → StandsFor self.now h → result ≡ next h }
     {
         self.holdings.next()
+    }
+
+    /// Appends the record of the account. After `Err` nothing is known of what was appended.
+    pub fn save(&self, out: &mut Bytes) -> Result<(), Memory>
+        ensures { OnOk result (out.new ≡ out.old ++ spelled_record self.now.held) }
+    {
+        save(&self.holdings, out)
+    }
+
+    /// Reads the record of an account. `Malformed` names the first field at which no record goes
+    /// on. The number of the next entry isn't in the record: until it is given by `number_from`, it
+    /// is past all that there can be.
+    pub fn load(alloc: Global, bytes: &[u8]) -> Result<Account, ReadFault>
+        ensures found { IfOk result (λ state. IsCanonicalState state × (spelled_record state.held ≡ bytes.now)) }
+        ensures next { IfOk result (λ state. state.next ≡ 2 ^ 63) }
+        ensures fault { FaultAt result (IsRecordFault bytes.now) }
+        ensures within { FaultAt result (λ place. place ≤ length bytes.now) }
+    {
+        match load(alloc, bytes) {
+            Ok(holdings) => Ok(Account { holdings }),
+            Err(fault) => Err(fault),
+        }
+    }
+
+    /// Gives an account that was just made or loaded the number of its next entry, and answers
+    /// whether it suits: it is past all births and stamps. If not, nothing changes.
+    pub fn number_from(&mut self, first: u64) -> bool
+        requires some { 0 < first }
+        requires most { first ≤ 2 ^ 63 }
+        ensures answer { result ≡ suits self.old first }
+        ensures state { self.new ≡ (if suits self.old first then numbered self.old first else self.old) }
+    {
+        if !suits(&self.holdings, first) {
+            return false;
+        }
+        self.holdings.set_next(first);
+        true
     }
 }

@@ -11,12 +11,12 @@ ghost use Rattle.pc_history.specs.Table.{same};
 ghost use Rattle.pc_history.specs.Record.{list_of, stamp_at};
 ghost use Rattle.pc_history.specs.Allowed.{inbox, is_mailbox, is_client, is_subscribed, messages, rises_from, is_allowed};
 ghost use Rattle.pc_history.specs.Legal.{IsCanonical};
-ghost use Rattle.pc_account.specs.State.{said};
+ghost use Rattle.pc_holdings.specs.State.{said};
 ghost use Rattle.pc_account.specs.LookUps.{is_set, has_flag, are_live};
 
-use crate::holdings::Holdings;
 use pc_base::Name;
 use pc_history::{Entry, LAST_MAIL, MOST_LETTERS, is_on};
+use pc_holdings::Holdings;
 use pc_mailbox::Mailbox;
 use pc_message::Message;
 

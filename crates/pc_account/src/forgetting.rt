@@ -5,16 +5,16 @@ ghost use Rattle.std.specs.List.{position, position_or_len};
 ghost use Rattle.std.specs.Option.{option_map_or};
 ghost use Rattle.pc_history.specs.Legal.{IsCanonical};
 ghost use Rattle.pc_history.specs.Allowed.{is_mailbox};
-ghost use Rattle.pc_account.specs.State.{said};
+ghost use Rattle.pc_holdings.specs.State.{said};
 ghost use Rattle.pc_account.specs.Plan.{planned, taken_uids, all_taken, with_taken, is_taken, inserted};
 ghost use Rattle.pc_account.specs.Answers.{Tells};
 ghost use Rattle.pc_account.specs.declared.wish.Wish.TheVariants as wish;
 
-use crate::holdings::Holdings;
 use crate::planning::refusal_of_list;
 use crate::wish::AskFault;
 use pc_base::{Memory, Name, Uids};
 use pc_history::{Entry, Listed};
+use pc_holdings::Holdings;
 use pc_mailbox::Mailbox;
 use std::alloc::Global;
 

@@ -12,11 +12,11 @@ impl Machine for Account {
     ghost use Rattle.pc_spelling.specs.EntryForm.{entry_fits, IsEntryFault};
     ghost use Rattle.pc_spelling.specs.RecordForm.{IsRecordFault};
     ghost use Rattle.pc_spelling.proofs.EntryLaws.{one-entry, entry-is-read, one-entry-fault};
-    ghost use Rattle.pc_account.specs.State.{new_state, step as stepped};
-    ghost use Rattle.pc_account.specs.Legal.{IsLegalState, IsCanonicalState, accepts};
-    ghost use Rattle.pc_account.specs.Numbered.{suits as suited, numbered as renumbered};
+    ghost use Rattle.pc_holdings.specs.State.{new_state, step as stepped};
+    ghost use Rattle.pc_records.specs.Legal.{IsLegalState, IsCanonicalState, accepts};
+    ghost use Rattle.pc_records.specs.Numbered.{suits as suited, numbered as renumbered};
     ghost use Rattle.pc_account.specs.Following as following;
-    ghost use Rattle.pc_account.specs.Recorded as recorded;
+    ghost use Rattle.pc_records.specs.Recorded as recorded;
 
     type Entry = Entry;
 

@@ -8,8 +8,8 @@ ghost use Rattle.pc_history.specs.Table.{same};
 ghost use Rattle.pc_account.specs.declared.wish.Wish.TheVariants as wish;
 ghost use Rattle.pc_history.specs.Legal.{IsCanonical};
 ghost use Rattle.pc_spelling.specs.EntryForm.{entry_fits};
-ghost use Rattle.pc_account.specs.Legal.{accepts};
-ghost use Rattle.pc_account.specs.State.{said, StandsFor, may_follow};
+ghost use Rattle.pc_records.specs.Legal.{accepts};
+ghost use Rattle.pc_holdings.specs.State.{said, StandsFor, may_follow};
 ghost use Rattle.pc_account.specs.Plan.{refused_where, refusal_of, holds, entry_of, planned, IsWish, IsAtOnce};
 ghost use Rattle.pc_account.specs.Answers.{Tells, IsNoMemory};
 
@@ -19,12 +19,12 @@ use crate::allowing::{
     is_mailbox, is_subscribed,
 };
 use crate::forgetting::forget;
-use crate::holdings::Holdings;
 use crate::limits::limit_passed;
 use crate::taking::take;
 use crate::wish::{AskFault, Wish};
 use pc_base::{Name, Refusal};
 use pc_history::Entry;
+use pc_holdings::Holdings;
 use pc_spelling::fits;
 use std::alloc::Global;
 

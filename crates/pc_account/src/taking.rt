@@ -3,18 +3,18 @@
 ghost use Rattle.std.specs.Prelude.{◌≡◌, ◌≤◌, length, map, take, IfOk};
 ghost use Rattle.pc_history.specs.Allowed.{inbox};
 ghost use Rattle.pc_history.specs.Legal.{IsCanonical};
-ghost use Rattle.pc_account.specs.State.{said};
+ghost use Rattle.pc_holdings.specs.State.{said};
 ghost use Rattle.pc_account.specs.Plan.{planned, IsWish, target_of};
 ghost use Rattle.pc_account.specs.Taking.{letter_of, bytes_of_letter, bytes_of_letters, can_come, front_count};
 ghost use Rattle.pc_account.specs.Answers.{Tells};
 ghost use Rattle.pc_account.specs.declared.wish.Wish.TheVariants as wish;
 
 use crate::allowing::{are_live, is_mailbox};
-use crate::holdings::Holdings;
 use crate::parcels::limit_of_letters;
 use crate::wish::AskFault;
 use pc_base::{Memory, Name, Room};
 use pc_history::Entry;
+use pc_holdings::Holdings;
 use pc_message::{Letters, Mail, Message};
 use std::alloc::Global;
 

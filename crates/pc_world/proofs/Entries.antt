@@ -4,7 +4,7 @@ use Rattle.std.specs.Option.{option_to_list}
 use Rattle.pc_base.specs.declared.refusal.Refusal.{Refusal}
 use Rattle.pc_history.specs.declared.entry.Entry.{Entry}
 use Rattle.pc_history.specs.History.{History, ◌▸◌, ◌▸▸◌, new_account, known, next}
-use Rattle.pc_account.specs.State.{State, StandsFor}
+use Rattle.pc_holdings.specs.State.{State, StandsFor}
 use Rattle.pc_account.specs.Answers.{Tells}
 use Rattle.pc_account.specs.Plan.{planned}
 use Rattle.pc_account.specs.declared.wish.Wish.{Wish}

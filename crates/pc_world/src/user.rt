@@ -6,7 +6,7 @@ ghost use Rattle.pc_history.specs.History.{known};
 ghost use Rattle.pc_history.specs.Known.{Known};
 ghost use Rattle.pc_account.specs.Answers.{Tells, answered};
 ghost use Rattle.pc_account.specs.Plan.{IsWish, planned};
-ghost use Rattle.pc_account.specs.State.{StandsFor, may_follow, said, step};
+ghost use Rattle.pc_holdings.specs.State.{StandsFor, may_follow, said, step};
 ghost use Rattle.pc_world.specs.Account.{history_of};
 ghost use Rattle.pc_world.specs.Changes.{Changes};
 ghost use Rattle.pc_world.specs.Heading.{heading_of};
@@ -30,7 +30,7 @@ pub(crate) struct User {
 
 impl Model for User {
     ghost use Rattle.std.specs.Prelude.{◌≡◌};
-    ghost use Rattle.pc_account.specs.State.{StandsFor};
+    ghost use Rattle.pc_holdings.specs.State.{StandsFor};
     ghost use Rattle.pc_world.specs.Account.{Account as Kept, history_of};
     ghost use Rattle.pc_world.specs.Heading.{heading_of};
 

@@ -1,6 +1,6 @@
 //! An account that is told in words what to do, so that a test is a table of lines and answers.
 
-ghost use Rattle.pc_account.specs.State.{said};
+ghost use Rattle.pc_holdings.specs.State.{said};
 ghost use Rattle.pc_account.specs.Plan.{IsWish};
 
 use super::mails::{mails, rise};

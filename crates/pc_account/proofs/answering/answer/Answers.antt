@@ -1,5 +1,5 @@
 use Rattle.std.proofs.Common.{sym, subst}
-use Rattle.pc_account.specs.State.{said}
+use Rattle.pc_holdings.specs.State.{said}
 use Rattle.pc_account.specs.Answers.{answered, Tells}
 use Rattle.pc_account.specs.declared.answer.Question.{Question}
 use Rattle.pc_account.proofs.answering.answer.Goals as goal

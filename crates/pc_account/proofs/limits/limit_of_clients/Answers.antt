@@ -4,7 +4,7 @@ use Rattle.pc_history.specs.declared.limits.TheConstants.{MOST_CLIENTS, MOST_CHA
 use Rattle.pc_history.specs.declared.entry.Entry.TheVariants.{MakeClient}
 use Rattle.pc_history.specs.Known.{after_entry}
 use Rattle.pc_history.specs.Limits.{listed_count}
-use Rattle.pc_account.specs.State.{said}
+use Rattle.pc_holdings.specs.State.{said}
 use Rattle.pc_account.specs.Limits.{limit_where}
 use Rattle.pc_account.proofs.TableSums.{none-from}
 use Rattle.pc_account.proofs.Found.{not-true, clients-counted}

@@ -4,7 +4,7 @@ use Rattle.pc_history.specs.declared.entry.Entry.{Entry}
 use Rattle.pc_history.specs.declared.entry.Entry.TheVariants.{Pull}
 use Rattle.pc_history.specs.declared.limits.TheConstants.{MOST_CHANGES}
 use Rattle.pc_history.specs.Limits.{limit_passed}
-use Rattle.pc_account.specs.State.{said}
+use Rattle.pc_holdings.specs.State.{said}
 use Rattle.pc_account.specs.Limits.{limit_where}
 use Rattle.pc_account.proofs.limits.limit_passed.Goals as goal
 

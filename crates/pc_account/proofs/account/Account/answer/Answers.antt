@@ -1,6 +1,6 @@
 use Rattle.std.proofs.Common.{subst}
 use Rattle.pc_history.specs.Known.{Known}
-use Rattle.pc_account.specs.State.{State, said}
+use Rattle.pc_holdings.specs.State.{State, said}
 use Rattle.pc_account.specs.Answers.{answered, Tells}
 use Rattle.pc_account.proofs.Standing.{said_is_known}
 use Rattle.pc_account.proofs.account.Account.answer.Goals as goal

@@ -1,6 +1,6 @@
 use Rattle.std.proofs.Common.{subst}
 use Rattle.pc_history.specs.Known.{Known}
-use Rattle.pc_account.specs.State.{State, said}
+use Rattle.pc_holdings.specs.State.{State, said}
 use Rattle.pc_account.specs.Plan.{planned}
 use Rattle.pc_account.specs.Answers.{Tells}
 use Rattle.pc_account.proofs.Accepted.{plan-accepted}

@@ -1,0 +1,5 @@
+mod ReadLists
+mod ReadMailboxes
+mod ReadRecord
+mod ReadTables
+mod Written
