@@ -56,9 +56,9 @@ impl Account {
         ensures memory { IsAtOnce wish.now → IsNoMemory result }
         ensures history { (h : History) → StandsFor self.now h → Tells (planned (known h) wish.now) result }
     {
-        let plan = plan(alloc, &self.holdings, wish);
-        see_that_it_fits(&plan);
-        plan
+        let planned = plan(alloc, &self.holdings, wish);
+        see_that_it_fits(&planned);
+        planned
     }
 }
 
