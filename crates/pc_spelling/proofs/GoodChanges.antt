@@ -1,7 +1,7 @@
 -- Update lists as they are read.
 use Rattle.std.proofs.Common.{◌≡◌, ℕ, zero, suc, ◌+◌, ◌<◌, ◌≤◌, ◌&&◌, ◌||◌, ◌==◌, nat_lt, nat_le, Bool, true, false, cond, not, ◌⊎◌, inl, inr, List, [], ◌∷◌, ◌++◌, length, refl, sym, ap, subst, ◌∙◌, append_assoc, arith, true≢false, length-append}
 use Rattle.std.specs.List.{filter, flat_map, AllByRecursion as Every}
-use Rattle.std.proofs.lemmas.Bool.{ltb-true, ltb-false, leb-true, lt-ltb, le-leb, eqb-true, eq-eqb, and_parts, or_parts, not-true}
+use Rattle.std.proofs.lemmas.Bool.{ltb-true, ltb-false, leb-true, lt-ltb, le-leb, eqb-true, eq-eqb, and_parts, and_from, or_parts, not-true}
 use Rattle.std.proofs.lemmas.List.{append-nil}
 use Rattle.pc_history.specs.declared.kept.Listed.{Listed}
 use Rattle.pc_history.specs.Legal.{Ordered, IsListedBefore, HasOtherUid, IsChange, IsUpdateList}
@@ -203,11 +203,6 @@ and-three true false false f g h = absurd (true≢false (sym h))
 and-three true true c f g h = absurd (true≢false g)
 and-three false b c f g h = absurd (true≢false (sym f))
 
-pub and-two : (a b : Bool) → a ≡ true → b ≡ true → (a && b) ≡ true
-and-two true true f g = refl
-and-two true false f g = absurd (true≢false (sym g))
-and-two false b f g = absurd (true≢false (sym f))
-
 pub fields-push : {X : Type 0} (f : X → List (List ℕ)) (front : List (List ℕ)) (xs : List X) (x : X) → (front ++ flat_map f xs) ++ f x ≡ front ++ flat_map f (xs ++ x ∷ [])
 fields-push f front [] x = ap (λ (t : List (List ℕ)). t ++ f x) (append-nil front) ∙ ap (λ (t : List (List ℕ)). front ++ t) (sym (append-nil (f x)))
 fields-push f front (y ∷ xs) x = ap (λ (t : List (List ℕ)). t ++ f x) (sym (append_assoc front (f y) (flat_map f xs))) ∙ fields-push f (front ++ f y) xs x ∙ append_assoc front (f y) (flat_map f (xs ++ x ∷ []))
@@ -219,14 +214,14 @@ good_changes highest birth zero stamp uid list front total small before is =
 good_changes highest birth (suc count) stamp uid list front total small before is =
     let found = goes-on-uid highest birth count stamp uid list before in
     let most = found.range.1 in (
-      (found.next, lt-ltb found.next 4294967296 (omega (arith, most, small)), and-three (within 1 highest found.next) (is_listed found.next list) (can_follow highest count list found.next (least_stamp stamp uid found.next)) (and-two (nat_le 1 found.next) (nat_le found.next highest) (le-leb 1 found.next found.range.0) (le-leb found.next highest most)) found.free found.can),
+      (found.next, lt-ltb found.next 4294967296 (omega (arith, most, small)), and-three (within 1 highest found.next) (is_listed found.next list) (can_follow highest count list found.next (least_stamp stamp uid found.next)) (and_from (nat_le 1 found.next) (nat_le found.next highest) (le-leb 1 found.next found.range.0) (le-leb found.next highest most)) found.free found.can),
       λ next fit passed.
           let parts = and_parts (within 1 highest next && not (is_listed next list)) (can_follow highest count list next (least_stamp stamp uid next)) passed in
           let first = and_parts (within 1 highest next) (not (is_listed next list)) parts.0 in
           let range = and_parts (nat_le 1 next) (nat_le next highest) first.0 in
           let least = follows highest count list next (least_stamp stamp uid next) parts.1 in
           let low = least.last in (
-            (least_stamp stamp uid next, lt-ltb (least_stamp stamp uid next) 18446744073709551616 (omega (arith, low)), and-two (nat_le (least_stamp stamp uid next) (least_stamp stamp uid next)) (can_follow highest count list next (least_stamp stamp uid next)) (le-leb (least_stamp stamp uid next) (least_stamp stamp uid next) (omega arith)) parts.1),
+            (least_stamp stamp uid next, lt-ltb (least_stamp stamp uid next) 18446744073709551616 (omega (arith, low)), and_from (nat_le (least_stamp stamp uid next) (least_stamp stamp uid next)) (can_follow highest count list next (least_stamp stamp uid next)) (le-leb (least_stamp stamp uid next) (least_stamp stamp uid next) (omega arith)) parts.1),
             λ at at-fit at-passed.
                 let at-parts = and_parts (nat_le (least_stamp stamp uid next) at) (can_follow highest count list next at) at-passed in
                 let new : Listed = record { uid = next; stamp = at } in

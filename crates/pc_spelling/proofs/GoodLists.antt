@@ -1,7 +1,7 @@
 -- The update lists of a mailbox as they are read.
 use Rattle.std.proofs.Common.{◌≡◌, ℕ, ◌-◌, ◌<◌, ◌≤◌, min, true, List, [], ◌∷◌, ◌++◌, length, refl, sym, ap, subst, ◌∙◌, append_assoc, arith}
 use Rattle.std.specs.List.{list_all, flat_map, AllByRecursion as Every}
-use Rattle.std.proofs.lemmas.Bool.{ltb-true, lt-ltb, and_parts}
+use Rattle.std.proofs.lemmas.Bool.{ltb-true, lt-ltb, and_parts, and_from}
 use Rattle.std.proofs.lemmas.List.{append-nil}
 use Rattle.pc_base.specs.Name.{is_name}
 use Rattle.pc_history.specs.declared.kept.Listed.{Listed}
@@ -15,7 +15,7 @@ use Rattle.pc_spelling.specs.EntryForm.{is_u32}
 use Rattle.pc_spelling.specs.RecordForm.{is_entry_number, client_fits, listed_fits, list_fits}
 use Rattle.pc_spelling.specs.RecordFormat.{changes_from, lists_from}
 use Rattle.pc_spelling.proofs.Good.{Good, good_bind, good_weaker}
-use Rattle.pc_spelling.proofs.GoodChanges.{IsReadList, good_changes, and-two}
+use Rattle.pc_spelling.proofs.GoodChanges.{IsReadList, good_changes}
 use Rattle.pc_spelling.proofs.GoodTables.{within-parts, is-within}
 
 abbrev pub Lists : Type 0
@@ -35,7 +35,7 @@ changes-fit highest birth [] small h = refl
 changes-fit highest birth (listed ∷ list) small h =
     let given = h.0.given in
     let so-far = h.0.so_far in
-    and-two (listed_fits listed) (list_all listed_fits list) (and-two (is_u32 listed.uid) (is_entry_number listed.stamp) (lt-ltb listed.uid 4294967296 (omega (arith, given, small))) (lt-ltb listed.stamp 9223372036854775808 so-far)) (changes-fit highest birth list small h.1)
+    and_from (listed_fits listed) (list_all listed_fits list) (and_from (is_u32 listed.uid) (is_entry_number listed.stamp) (lt-ltb listed.uid 4294967296 (omega (arith, given, small))) (lt-ltb listed.stamp 9223372036854775808 so-far)) (changes-fit highest birth list small h.1)
 
 list-before : (highest room count : ℕ) (client : List ℕ × ℕ) (clients : List (List ℕ × ℕ)) (before : Lists) (front middle fields : List (List ℕ)) (list : List Listed) (lists : Lists)
     → highest < 4294967296 → is_name client.0 ≡ true → IsReadList highest client.1 count ((front ++ name_field client.0 ∷ []) ++ u32_field count ∷ []) middle list → count ≤ room → AreReadLists highest (room - length list) clients (before ++ (client.0, list) ∷ []) middle fields lists
@@ -51,7 +51,7 @@ list-before highest room count client clients before front middle fields list li
           ∙ append_assoc front (update_list_fields (client.0, list)) (flat_map update_list_fields rest.rest);
       are = (refl, read.is_list, rest.are);
       few = omega (arith, few, counted, within-room);
-      fit = and-two (list_fits (client.0, list)) (list_all list_fits rest.rest) (and-two (is_name client.0) (list_all listed_fits list) name (changes-fit highest client.1 list small read.is_list.changes)) rest.fit;
+      fit = and_from (list_fits (client.0, list)) (list_all list_fits rest.rest) (and_from (is_name client.0) (list_all listed_fits list) name (changes-fit highest client.1 list small read.is_list.changes)) rest.fit;
     }
 
 pub good_lists : (highest room : ℕ) (clients : List (List ℕ × ℕ)) (before : Lists) (front : List (List ℕ)) → highest < 4294967296 → list_all client_fits clients ≡ true → Good (AreReadLists highest room clients before front) (lists_from highest room clients before) front

@@ -2,7 +2,7 @@
 use Rattle.std.proofs.Common.{◌≡◌, ℕ, zero, suc, ◌+◌, ◌-◌, ◌*◌, ◌/◌, ◌≤◌, ◌&&◌, ◌||◌, min, Bool, true, false, cond, not, List, [], ◌∷◌, ◌++◌, length, refl, sym, ap, subst, ◌∙◌, append_assoc, arith, true≢false, length-append}
 use Rattle.std.specs.List.{list_all, flat_map, AllByRecursion as Every}
 use Rattle.std.specs.Map.{keys_of}
-use Rattle.std.proofs.lemmas.Bool.{lt-ltb}
+use Rattle.std.proofs.lemmas.Bool.{lt-ltb, and_from}
 use Rattle.std.proofs.lemmas.List.{append-nil}
 use Rattle.pc_base.specs.Name.{is_name}
 use Rattle.pc_message.specs.Message.{weight_of}
@@ -22,7 +22,6 @@ use Rattle.pc_spelling.specs.RecordForm.{client_fits, kept_fits, list_fits, mail
 use Rattle.pc_spelling.specs.RecordFormat.{is_new, has_none, messages_from, lists_from, mailbox_format, weight_under, changes_under, mailboxes_from, mailboxes_format}
 use Rattle.pc_spelling.proofs.Good.{Good, good_bind, good_weaker}
 use Rattle.pc_spelling.proofs.Free.{new_name}
-use Rattle.pc_spelling.proofs.GoodChanges.{and-two}
 use Rattle.pc_spelling.proofs.GoodTables.{distinct-push, keys-push, length-keys, all-push, within-parts, is-within}
 use Rattle.pc_spelling.proofs.GoodMessages.{AreReadMessages, good_messages}
 use Rattle.pc_spelling.proofs.GoodLists.{AreReadLists, good_lists}
@@ -134,8 +133,8 @@ no-names-more (name ∷ names) = ap (λ (t : List (List ℕ)). name ∷ t) (no-n
 box-fits : (clients : List (List ℕ × ℕ)) (most weight changes : ℕ) (front fields : List (List ℕ)) (name : List ℕ) (box : MailboxRecord) → is_name name ≡ true → IsReadMailbox clients most weight changes front fields box → mailbox_fits (name, box) ≡ true
 box-fits clients most weight changes front fields name box is read =
     let uids = read.uids in
-    and-two (is_name name && is_u32 box.highest && list_all kept_fits box.messages) (list_all list_fits box.lists)
-    (and-two (is_name name && is_u32 box.highest) (list_all kept_fits box.messages) (and-two (is_name name) (is_u32 box.highest) is (lt-ltb box.highest 4294967296 (omega (arith, uids)))) read.messages_fit) read.lists_fit
+    and_from (is_name name && is_u32 box.highest && list_all kept_fits box.messages) (list_all list_fits box.lists)
+    (and_from (is_name name && is_u32 box.highest) (list_all kept_fits box.messages) (and_from (is_name name) (is_u32 box.highest) is (lt-ltb box.highest 4294967296 (omega (arith, uids)))) read.messages_fit) read.lists_fit
 
 -- one that lives
 live-push : (clients : List (List ℕ × ℕ)) (live : Table) (front fields : List (List ℕ)) (name : List ℕ) (box : MailboxRecord) → AreMailboxes clients live [] → is_name name ≡ true → is_new (keys_of live ++ []) name ≡ true → IsReadMailbox clients 4096 (16777216 - weight_under live) (1048576 - (changes_under live + 0)) front fields box → AreMailboxes clients (live ++ (name, box) ∷ []) []

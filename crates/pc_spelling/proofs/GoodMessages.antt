@@ -1,7 +1,7 @@
 -- Messages as they are read.
 use Rattle.std.proofs.Common.{◌≡◌, ℕ, zero, suc, ◌+◌, ◌-◌, ◌*◌, ◌/◌, ◌<◌, ◌≤◌, ◌&&◌, nat_lt, nat_le, min, true, List, [], ◌∷◌, ◌++◌, length, map, refl, sym, ap, subst, ◌∙◌, append_assoc, arith, length-append}
 use Rattle.std.specs.List.{list_all, flat_map, AllByRecursion as Every}
-use Rattle.std.proofs.lemmas.Bool.{leb-true, lt-ltb, le-leb}
+use Rattle.std.proofs.lemmas.Bool.{leb-true, lt-ltb, le-leb, and_from}
 use Rattle.std.proofs.lemmas.List.{append-nil}
 use Rattle.pc_base.specs.Line.{is_line}
 use Rattle.pc_message.specs.Message.{size_of, weight_of}
@@ -18,7 +18,7 @@ use Rattle.pc_spelling.specs.EntryFormat.{lines_format}
 use Rattle.pc_spelling.specs.RecordForm.{is_u16, kept_fits}
 use Rattle.pc_spelling.specs.RecordFormat.{message_within, messages_from}
 use Rattle.pc_spelling.proofs.Good.{Good, good_bind, good_weaker}
-use Rattle.pc_spelling.proofs.GoodChanges.{fields-push, and-two}
+use Rattle.pc_spelling.proofs.GoodChanges.{fields-push}
 use Rattle.pc_spelling.proofs.GoodTables.{all-push, within-parts, is-within}
 
 -- ---- lines
@@ -36,7 +36,7 @@ line-before count room front fields line lines is short rest =
     let counted = rest.counted in
     record {
       spelled = rest.spelled ∙ append_assoc front (line_field line ∷ []) (map line_field lines);
-      are = and-two (is_line line) (list_all is_line lines) is rest.are;
+      are = and_from (is_line line) (list_all is_line lines) is rest.are;
       size = omega (arith, size, short);
       counted = ap suc counted;
     }
@@ -76,7 +76,7 @@ good_message room front le = (
         let counted = read.counted in
         record {
           spelled = read.spelled ∙ append_assoc front (u32_field count ∷ []) (map line_field lines) ∙ ap (λ (n : ℕ). front ++ (u32_field n ∷ map line_field lines)) (sym counted);
-          is = and-two (list_all is_line lines) (nat_le (size_of lines) 65536) read.are (le-leb (size_of lines) 65536 (omega (arith, size, twice, le)));
+          is = and_from (list_all is_line lines) (nat_le (size_of lines) 65536) read.are (le-leb (size_of lines) 65536 (omega (arith, size, twice, le)));
           size = omega (arith, size, twice);
         })
 
@@ -104,7 +104,7 @@ message-push highest low room most uid flags message messages small before behin
     record {
       rising = Ordered-push (λ (kept later : Kept). kept.uid < later.uid) messages new before.rising (Every-weaker (λ (kept : Kept). (0 < kept.uid) × (kept.uid ≤ low)) (λ (kept : Kept). kept.uid < uid) (λ kept h. omega (arith, h.1, behind)) messages before.upto);
       upto = Every-append (λ (kept : Kept). (0 < kept.uid) × (kept.uid ≤ uid)) messages (new ∷ []) (Every-weaker (λ (kept : Kept). (0 < kept.uid) × (kept.uid ≤ low)) (λ (kept : Kept). (0 < kept.uid) × (kept.uid ≤ uid)) (λ kept h. (h.0, omega (arith, h.1, behind))) messages before.upto) ((omega (arith, behind), omega arith), tt);
-      fit = all-push kept_fits messages new before.fit (and-two (is_u32 uid && is_u16 flags) (is_message message) (and-two (is_u32 uid) (is_u16 flags) (lt-ltb uid 4294967296 (omega (arith, given, small))) flags-fit) is);
+      fit = all-push kept_fits messages new before.fit (and_from (is_u32 uid && is_u16 flags) (is_message message) (and_from (is_u32 uid) (is_u16 flags) (lt-ltb uid 4294967296 (omega (arith, given, small))) flags-fit) is);
       light = omega (arith, lighter, sum, light);
     }
 

@@ -2,7 +2,7 @@
 use Rattle.std.proofs.Common.{◌≡◌, ℕ, ◌+◌, ◌<◌, ◌≤◌, ◌&&◌, nat_lt, nat_le, Bool, true, false, cond, not, List, [], ◌∷◌, ◌++◌, length, Option, None, Some, IsTrue, refl, ap, ◌∙◌, append_assoc, arith, length-append}
 use Rattle.std.specs.List.{list_all, AllByRecursion as Every}
 use Rattle.std.specs.Map.{keys_of}
-use Rattle.std.proofs.lemmas.Bool.{ltb-true, le-leb}
+use Rattle.std.proofs.lemmas.Bool.{ltb-true, le-leb, and_from}
 use Rattle.pc_history.specs.declared.limits.TheConstants.{MOST_UIDS, MOST_MESSAGES, LAST_MAIL}
 use Rattle.pc_history.specs.Record.{MailboxRecord, AccountRecord, mailbox_of}
 use Rattle.pc_history.specs.Known.{said_by}
@@ -18,7 +18,6 @@ use Rattle.pc_spelling.specs.Format.{Format, ends, goes, bind}
 use Rattle.pc_spelling.specs.RecordForm.{is_digest, client_fits, mailbox_fits, subscription_fits, fits_record}
 use Rattle.pc_spelling.specs.RecordFormat.{digest_format, clients_format, mailboxes_format, subscriptions_format, record_format}
 use Rattle.pc_spelling.proofs.Good.{Good, good_bind}
-use Rattle.pc_spelling.proofs.GoodChanges.{and-two}
 use Rattle.pc_spelling.proofs.GoodTables.{AreReadClients, good_clients, AreReadSubscriptions, good_subscriptions, within-parts, length-keys}
 use Rattle.pc_spelling.proofs.GoodMailboxes.{Table, AreMailboxes, IsReadTable, good_mailboxes}
 
@@ -50,7 +49,7 @@ at-most most n le = by_test (nat_lt most n) refl
 
 all-names : (test : List ℕ → Bool) (names : List (List ℕ)) → ((name : List ℕ) → test name ≡ true) → list_all test names ≡ true
 all-names test [] h = refl
-all-names test (name ∷ names) h = and-two (test name) (list_all test names) (h name) (all-names test names h)
+all-names test (name ∷ names) h = and_from (test name) (list_all test names) (h name) (all-names test names h)
 
 module _ (r : AccountRecord) (formed : IsWellFormed r 9223372036854775808) (few-clients : length r.clients ≤ 16) (few-names : length r.live + length r.dropped ≤ 64) (are : AreMailboxes r.clients r.live r.dropped) (few-boards : length r.subscriptions ≤ 64) where
   few-uids : (name : List ℕ) → nat_le (mailbox_of r name).highest MOST_UIDS ≡ true
@@ -124,8 +123,8 @@ module _ (pulled : ℕ) (digest : Option (List ℕ)) (clients : List (List ℕ �
 
   record-fits : IsTrue (fits_record r)
   record-fits =
-      and-two (is_digest digest && list_all client_fits clients && list_all mailbox_fits mailboxes.0 && list_all mailbox_fits mailboxes.1) (list_all subscription_fits subscriptions)
-      (and-two (is_digest digest && list_all client_fits clients && list_all mailbox_fits mailboxes.0) (list_all mailbox_fits mailboxes.1) (and-two (is_digest digest && list_all client_fits clients) (list_all mailbox_fits mailboxes.0) (and-two (is_digest digest) (list_all client_fits clients) d.fits c.are.fit) m.are.live_fit) m.are.dropped_fit) s.fit
+      and_from (is_digest digest && list_all client_fits clients && list_all mailbox_fits mailboxes.0 && list_all mailbox_fits mailboxes.1) (list_all subscription_fits subscriptions)
+      (and_from (is_digest digest && list_all client_fits clients && list_all mailbox_fits mailboxes.0) (list_all mailbox_fits mailboxes.1) (and_from (is_digest digest && list_all client_fits clients) (list_all mailbox_fits mailboxes.0) (and_from (is_digest digest) (list_all client_fits clients) d.fits c.are.fit) m.are.live_fit) m.are.dropped_fit) s.fit
 
   record-spelled : f4 ≡ fields_of_record r
   record-spelled =

@@ -2,7 +2,7 @@
 use Rattle.std.proofs.Common.{◌≡◌, ℕ, zero, suc, ◌+◌, ◌-◌, ◌<◌, ◌≤◌, nat_lt, nat_le, Bool, true, false, List, [], ◌∷◌, ◌++◌, length, refl, sym, ap, subst, ◌∙◌, append_assoc, arith, length-append}
 use Rattle.std.specs.List.{list_all, flat_map, AllByRecursion as Every}
 use Rattle.std.specs.Map.{keys_of}
-use Rattle.std.proofs.lemmas.Bool.{leb-true, lt-ltb, le-leb, and_parts, or_parts, not-true}
+use Rattle.std.proofs.lemmas.Bool.{leb-true, lt-ltb, le-leb, and_parts, and_from, or_parts, not-true}
 use Rattle.pc_base.specs.Name.{is_name}
 use Rattle.pc_history.specs.Table.{same, is_among}
 use Rattle.pc_history.specs.Legal.{Ordered, AreDistinct}
@@ -15,7 +15,7 @@ use Rattle.pc_spelling.specs.RecordForm.{client_fits, subscription_fits}
 use Rattle.pc_spelling.specs.RecordFormat.{last_number, is_new, clients_from, clients_format, subscriptions_from, subscriptions_format}
 use Rattle.pc_spelling.proofs.Good.{Good}
 use Rattle.pc_spelling.proofs.Free.{new_name}
-use Rattle.pc_spelling.proofs.GoodChanges.{fields-push, and-two}
+use Rattle.pc_spelling.proofs.GoodChanges.{fields-push}
 
 -- ---- names that differ
 
@@ -34,14 +34,14 @@ length-keys [] = refl
 length-keys (entry ∷ table) = ap suc (length-keys table)
 
 pub all-push : {X : Type 0} (test : X → Bool) (xs : List X) (x : X) → list_all test xs ≡ true → test x ≡ true → list_all test (xs ++ x ∷ []) ≡ true
-all-push test [] x all here = and-two (test x) true here refl
-all-push test (y ∷ xs) x all here = let parts = and_parts (test y) (list_all test xs) all in and-two (test y) (list_all test (xs ++ x ∷ [])) parts.0 (all-push test xs x parts.1 here)
+all-push test [] x all here = and_from (test x) true here refl
+all-push test (y ∷ xs) x all here = let parts = and_parts (test y) (list_all test xs) all in and_from (test y) (list_all test (xs ++ x ∷ [])) parts.0 (all-push test xs x parts.1 here)
 
 pub within-parts : (low high n : ℕ) → within low high n ≡ true → (low ≤ n) × (n ≤ high)
 within-parts low high n e = let parts = and_parts (nat_le low n) (nat_le n high) e in (leb-true low n parts.0, leb-true n high parts.1)
 
 pub is-within : (low high n : ℕ) → low ≤ n → n ≤ high → within low high n ≡ true
-is-within low high n le ge = and-two (nat_le low n) (nat_le n high) (le-leb low n le) (le-leb n high ge)
+is-within low high n le ge = and_from (nat_le low n) (nat_le n high) (le-leb low n le) (le-leb n high ge)
 
 -- ---- clients
 
@@ -59,7 +59,7 @@ clients-push low clients name birth before is new behind last = record {
   upto = Every-append (λ (client : List ℕ × ℕ). (0 < client.1) × (client.1 ≤ birth)) clients ((name, birth) ∷ []) (Every-weaker (λ (client : List ℕ × ℕ). (0 < client.1) × (client.1 ≤ low)) (λ (client : List ℕ × ℕ). (0 < client.1) × (client.1 ≤ birth)) (λ client h. (h.0, omega (arith, h.1, behind))) clients before.upto) ((omega (arith, behind), omega arith), tt);
   last = last;
   distinct = subst AreDistinct (sym (keys-push clients name birth)) (distinct-push (keys_of clients) name before.distinct new);
-  fit = all-push client_fits clients (name, birth) before.fit (and-two (is_name name) (nat_lt birth 9223372036854775808) is (lt-ltb birth 9223372036854775808 (omega (arith, last))));
+  fit = all-push client_fits clients (name, birth) before.fit (and_from (is_name name) (nat_lt birth 9223372036854775808) is (lt-ltb birth 9223372036854775808 (omega (arith, last))));
 }
 
 -- so many clients were read
@@ -144,7 +144,7 @@ module _ (front : List (List ℕ)) (total : ℕ) (few : total ≤ 64) where
               (two-fields (counted-there ++ flat_map subscription_fields before) (name_field board) (u32_field mark) (counted-there ++ flat_map subscription_fields (before ++ (board, mark) ∷ [])) (fields-push subscription_fields counted-there before (board, mark)))
               (good-subscriptions count (before ++ (board, mark) ∷ [])
               (subst AreDistinct (sym (keys-push before board mark)) (distinct-push (keys_of before) board distinct new))
-              (all-push subscription_fits before (board, mark) fit (and-two (is_name board) (nat_lt mark 4294967296) is-name mark-fit))
+              (all-push subscription_fits before (board, mark) fit (and_from (is_name board) (nat_lt mark 4294967296) is-name mark-fit))
               (omega (arith, is, size))),
         ),
       )

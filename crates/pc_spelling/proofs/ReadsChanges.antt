@@ -1,7 +1,7 @@
 -- The fields of update lists are read as them.
 use Rattle.std.proofs.Common.{◌≡◌, ℕ, zero, suc, ◌+◌, ◌-◌, ◌<◌, ◌≤◌, ◌&&◌, ◌||◌, ◌==◌, nat_lt, nat_le, Bool, true, false, cond, not, ◌⊎◌, inl, inr, List, [], ◌∷◌, ◌++◌, length, refl, sym, ap, subst, ◌∙◌, append_assoc, arith, true≢false}
 use Rattle.std.specs.List.{filter, list_all, flat_map, AllByRecursion as Every}
-use Rattle.std.proofs.lemmas.Bool.{ltb-true, ltb-false, lt-ltb, le-leb, eqb-true, eq-eqb, and_parts}
+use Rattle.std.proofs.lemmas.Bool.{ltb-true, ltb-false, lt-ltb, le-leb, eqb-true, eq-eqb, and_parts, and_from}
 use Rattle.std.proofs.lemmas.List.{append-nil}
 use Rattle.pc_history.specs.declared.kept.Listed.{Listed}
 use Rattle.pc_history.specs.Legal.{Ordered, IsListedBefore, HasOtherUid}
@@ -13,7 +13,6 @@ use Rattle.pc_spelling.specs.EntryForm.{is_u32}
 use Rattle.pc_spelling.specs.RecordForm.{is_entry_number, listed_fits}
 use Rattle.pc_spelling.specs.RecordFormat.{last_number, least_stamp, above, is_listed, can_follow, changes_from}
 use Rattle.pc_spelling.proofs.Formats.{ReadsAs}
-use Rattle.pc_spelling.proofs.GoodChanges.{and-two}
 use Rattle.pc_spelling.proofs.GoodTables.{is-within}
 
 -- ---- how many distinct uids there can be above one
@@ -194,7 +193,7 @@ reads_changes highest (listed ∷ rest) stamp uid before left =
         listed.stamp,
         _,
         lt-ltb listed.stamp 18446744073709551616 (omega (arith, stamp-lt)),
-        and-two (nat_le (least_stamp stamp uid listed.uid) listed.stamp) (can_follow highest (length rest) before listed.uid listed.stamp) (le-leb (least_stamp stamp uid listed.uid) listed.stamp low) (follow-less highest (length rest) before listed.uid listed.stamp listed.stamp (omega arith) last room),
+        and_from (nat_le (least_stamp stamp uid listed.uid) listed.stamp) (can_follow highest (length rest) before listed.uid listed.stamp) (le-leb (least_stamp stamp uid listed.uid) listed.stamp low) (follow-less highest (length rest) before listed.uid listed.stamp listed.stamp (omega arith) last room),
         refl,
         subst (ReadsAs (changes_from highest (length rest) listed.stamp listed.uid (before ++ listed ∷ [])) (flat_map listed_fields rest)) (append_assoc before (listed ∷ []) rest)
             (reads_changes highest rest listed.stamp listed.uid (before ++ listed ∷ [])

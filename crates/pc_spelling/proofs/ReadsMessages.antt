@@ -46,7 +46,7 @@ reads_message message room is size =
     )
 
 -- uids that rise have room below the highest one
-rising-room : (highest uid : ℕ) (messages : List Kept) → uid ≤ highest → Every (λ (kept : Kept). uid < kept.uid) messages → Ordered (λ (kept later : Kept). kept.uid < later.uid) messages → Every (λ (kept : Kept). kept.uid ≤ highest) messages → uid + length messages ≤ highest
+pub rising-room : (highest uid : ℕ) (messages : List Kept) → uid ≤ highest → Every (λ (kept : Kept). uid < kept.uid) messages → Ordered (λ (kept later : Kept). kept.uid < later.uid) messages → Every (λ (kept : Kept). kept.uid ≤ highest) messages → uid + length messages ≤ highest
 rising-room highest uid [] le behind rising upto = omega (arith, le)
 rising-room highest uid (kept ∷ messages) le behind rising upto =
     let rest = rising-room highest kept.uid messages upto.0 rising.0 rising.1 upto.1 in
@@ -54,7 +54,7 @@ rising-room highest uid (kept ∷ messages) le behind rising upto =
     omega (arith, rest, here)
 
 -- each message weighs 256 at least
-weight-least : (messages : List Kept) → 256 * length messages ≤ total (λ (kept : Kept). weight_of kept.message) messages
+pub weight-least : (messages : List Kept) → 256 * length messages ≤ total (λ (kept : Kept). weight_of kept.message) messages
 weight-least [] = omega arith
 weight-least (kept ∷ messages) = let rest = weight-least messages in omega (arith, rest)
 

@@ -1,5 +1,5 @@
 -- The fields of a record that can be saved are read as it.
-use Rattle.std.proofs.Common.{◌≡◌, ℕ, zero, suc, ◌+◌, ◌-◌, ◌*◌, ◌/◌, ◌<◌, ◌≤◌, ◌&&◌, nat_lt, nat_le, min, Bool, true, false, not, List, [], ◌∷◌, ◌++◌, length, Option, None, Some, unwrap_or, MatchOption, refl, sym, ap, subst, ◌∙◌, append_assoc, arith, length-append, inl, inr}
+use Rattle.std.proofs.Common.{◌≡◌, ℕ, zero, suc, ◌+◌, ◌-◌, ◌/◌, ◌<◌, ◌≤◌, ◌&&◌, nat_lt, nat_le, min, Bool, true, false, not, List, [], ◌∷◌, ◌++◌, length, Option, None, Some, unwrap_or, MatchOption, refl, sym, ap, subst, ◌∙◌, append_assoc, arith, length-append, inl, inr}
 use Rattle.std.specs.Prelude.{⊤}
 use Rattle.std.specs.List.{list_all, flat_map, AllByRecursion as Every}
 use Rattle.std.specs.Map.{lookup, keys_of}
@@ -20,7 +20,7 @@ use Rattle.pc_history.proofs.Tables.{same-refl, same-sym, lookup-append, keys-ap
 use Rattle.pc_history.proofs.Uids.{Every-weaker}
 use Rattle.pc_history.proofs.FormedAfter.{Every-from_lookups, Every-split}
 use Rattle.pc_history.proofs.Counts.{messages-said_by, weight-said_by, listed_count-said_by}
-use Rattle.pc_history.proofs.Numbers.{total-append}
+use Rattle.pc_history.proofs.Numbers.{list_all-split, total-append}
 use Rattle.pc_spelling.specs.Spelling.{u32_field, u64_field, digest_fields, client_fields, kept_fields, listed_fields, update_list_fields, mailbox_fields, mailboxes_fields, subscription_fields, short_list, fields_of_record}
 use Rattle.pc_spelling.specs.Fields.{u16_kind, within}
 use Rattle.pc_spelling.specs.Format.{ends, goes, bind}
@@ -28,11 +28,10 @@ use Rattle.pc_spelling.specs.EntryForm.{is_u32}
 use Rattle.pc_spelling.specs.RecordForm.{is_digest, is_entry_number, client_fits, kept_fits, listed_fits, list_fits, mailbox_fits, subscription_fits, CanBeSaved}
 use Rattle.pc_spelling.specs.RecordFormat.{last_number, is_new, digest_format, clients_from, clients_format, messages_from, changes_from, lists_from, mailbox_format, weight_under, changes_under, mailboxes_from, mailboxes_format, subscriptions_from, subscriptions_format, record_format}
 use Rattle.pc_spelling.proofs.Formats.{ReadsAs, reads_bind}
-use Rattle.pc_spelling.proofs.GoodChanges.{and-two}
 use Rattle.pc_spelling.proofs.GoodTables.{is-within, length-keys}
 use Rattle.pc_spelling.proofs.GoodMailboxes.{Table, weight_of_box, changes_of_box, box_fields}
 use Rattle.pc_spelling.proofs.GoodRecord.{with_subscriptions, with_mailboxes, with_clients}
-use Rattle.pc_spelling.proofs.ReadsMessages.{reads_messages}
+use Rattle.pc_spelling.proofs.ReadsMessages.{rising-room, weight-least, reads_messages}
 use Rattle.pc_spelling.proofs.ReadsChanges.{above-room, above-all, IsBehind, AreLeft, reads_changes}
 
 -- ---- names
@@ -189,17 +188,6 @@ pub record Fits (number : ℕ) (clients : List (List ℕ × ℕ)) (most weight c
   pub listed : changes_of_box mailbox.1 ≤ changes
   pub fit : mailbox_fits mailbox ≡ true
 
-messages-room : (highest low : ℕ) (messages : List Kept) → low ≤ highest → Every (λ (kept : Kept). low < kept.uid) messages → Ordered (λ (kept later : Kept). kept.uid < later.uid) messages → Every (λ (kept : Kept). kept.uid ≤ highest) messages → low + length messages ≤ highest
-messages-room highest low [] le behind rising upto = omega (arith, le)
-messages-room highest low (kept ∷ messages) le behind rising upto =
-    let rest = messages-room highest kept.uid messages upto.0 rising.0 rising.1 upto.1 in
-    let here = behind.0 in
-    omega (arith, rest, here)
-
-weight-least : (messages : List Kept) → 256 * length messages ≤ total (λ (kept : Kept). weight_of kept.message) messages
-weight-least [] = omega arith
-weight-least (kept ∷ messages) = let rest = weight-least messages in omega (arith, rest)
-
 reads-mailbox : (number : ℕ) (clients : List (List ℕ × ℕ)) (most weight changes : ℕ) (mailbox : List ℕ × MailboxRecord) → length clients ≤ 16 → Fits number clients most weight changes mailbox → ReadsAs (mailbox_format clients most weight changes) (box_fields mailbox.1) mailbox.1
 reads-mailbox number clients most weight changes mailbox few-clients fits =
     let box = mailbox.1 in
@@ -211,7 +199,7 @@ reads-mailbox number clients most weight changes mailbox few-clients fits =
     let given = fits.is.messages.given in
     let positive = Every-weaker (λ (kept : Kept). (0 < kept.uid) × (kept.uid ≤ box.highest)) (λ (kept : Kept). 0 < kept.uid) (λ kept h. h.0) box.messages given in
     let upto = Every-weaker (λ (kept : Kept). (0 < kept.uid) × (kept.uid ≤ box.highest)) (λ (kept : Kept). kept.uid ≤ box.highest) (λ kept h. h.1) box.messages given in
-    let room = messages-room box.highest 0 box.messages (omega arith) positive fits.is.messages.rising upto in
+    let room = rising-room box.highest 0 box.messages (omega arith) positive fits.is.messages.rising upto in
     let least = weight-least box.messages in
     let size = lists-length number box.highest clients box.lists fits.is.lists in (
       box.highest,
@@ -324,13 +312,6 @@ module _ (number : ℕ) (clients : List (List ℕ × ℕ)) (few-clients : length
 
 -- ---- what a record that can be saved says of its parts
 
-all-split : {X : Type 0} (test : X → Bool) (xs ys : List X) → list_all test (xs ++ ys) ≡ true → (list_all test xs ≡ true) × (list_all test ys ≡ true)
-all-split test [] ys e = (refl, e)
-all-split test (x ∷ xs) ys e =
-    let parts = and_parts (test x) (list_all test (xs ++ ys)) e in
-    let rest = all-split test xs ys parts.1 in
-    (and-two (test x) (list_all test xs) parts.0 rest.0, rest.1)
-
 -- under each name of the tables stands what is found there
 pub found-there : (r : AccountRecord) → AreDistinct (keys_of r.live ++ keys_of r.dropped) → Every (λ (entry : List ℕ × MailboxRecord). mailbox_of r entry.0 ≡ entry.1) r.live × Every (λ (entry : List ℕ × MailboxRecord). mailbox_of r entry.0 ≡ entry.1) r.dropped
 found-there r distinct =
@@ -383,7 +364,7 @@ reads_record r saved =
     let names = length-append (keys_of r.live) (keys_of r.dropped) in
     let live-names = length-keys r.live in
     let dropped-names = length-keys r.dropped in
-    let uids = all-split (λ (name : List ℕ). nat_le (mailbox_of r name).highest MOST_UIDS) (keys_of r.live) (keys_of r.dropped) (not-false _ within-limits.1.1.0) in
+    let uids = list_all-split (λ (name : List ℕ). nat_le (mailbox_of r name).highest MOST_UIDS) (keys_of r.live) (keys_of r.dropped) (not-false _ within-limits.1.1.0) in
     let few-messages = not-false (list_all (λ (name : List ℕ). nat_le (length (messages (said_by r number) name)) MOST_MESSAGES) (keys_of r.live)) within-limits.1.1.1.0 in
     let light = ltb-false 16777216 _ within-limits.1.1.1.1.0 in
     let weighed = weight-said_by r number formed in
