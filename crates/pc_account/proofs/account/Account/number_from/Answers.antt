@@ -1,4 +1,4 @@
-use Rattle.std.proofs.Common.{◌≡◌, true, sym, ◌∙◌, arith}
+use Rattle.std.proofs.Common.{◌≡◌, true, arith}
 use Rattle.pc_records.specs.Numbered.{suits}
 use Rattle.pc_records.specs.Renumbered.{canonical_numbered}
 use Rattle.pc_account.proofs.account.Account.number_from.Goals as goal
