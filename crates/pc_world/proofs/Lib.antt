@@ -1,6 +1,7 @@
 pub mod Adding
 pub mod AskedCalls
 pub mod AskLines
+pub mod AskedBy
 pub mod Asking
 pub mod Chains
 pub mod Entries

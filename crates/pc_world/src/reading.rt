@@ -1,6 +1,7 @@
 //! Lines of a script, read as events.
 
 ghost use Rattle.std.specs.Prelude.{◌≡◌, ◌≤◌, false, [], ◌∷◌, length, IsTrue, IfOk, IfErr, OnErr, IfSome, Ok, Err, Some};
+ghost use Rattle.pc_base.specs.Name.{is_name};
 ghost use Rattle.pc_request.specs.Request.{IsRequest};
 ghost use Rattle.pc_request.specs.Fault.{fault_of};
 ghost use Rattle.pc_request.specs.declared.request.Request.{Request as RequestValue};
@@ -97,26 +98,33 @@ fn said_ask(words: &[u8]) -> Result<Event, EventFault>
     Ok(Event::Ask { user, asked })
 }
 
-/// The user that a line which says `ask` is said to come from, and the text behind the user.
-pub(crate) fn asking(line: &[u8]) -> Option<(&[u8], &[u8])>
-    ensures { IfSome result (λ found. IsAsking line.now found.0.now found.1.now) }
+/// The word for the user and the text behind, where the line says `ask`, one space and this name. Other
+/// lines may ask too, with more spaces.
+pub(crate) fn asking_as<'a>(line: &'a [u8], name: &[u8]) -> Option<(&'a [u8], &'a [u8])>
+    requires { IsTrue (is_name name.now) }
+    ensures { IfSome result (λ found. IsAsking line.now found.0.now found.1.now × (found.0.now ≡ name.now)) }
 {
-    if !says_something(line) {
+    if MOST_LINE < line.len() {
         return None;
     }
-    let (word, rest) = next_word(line)?;
-    if word != b"ask".as_slice() {
+    if line.len() < 4 {
         return None;
     }
-    let (user, rest) = next_word(rest)?;
+    let (word, behind) = line.split_at(4);
+    if word != b"ask ".as_slice() {
+        return None;
+    }
+    if behind.len() <= name.len() {
+        return None;
+    }
+    let (user, rest) = behind.split_at(name.len());
+    if user != name {
+        return None;
+    }
+    if rest[0] != b' ' {
+        return None;
+    }
     Some((user, without_spaces(rest)))
-}
-
-/// Whether the line isn't too long, and neither empty nor a comment.
-fn says_something(line: &[u8]) -> bool
-    ensures { IsTrue result → (length line.now ≤ 1000) × (is_silent line.now ≡ false) }
-{
-    line.len() <= MOST_LINE && !is_silent_line(line)
 }
 
 /// What a text asks for.

@@ -10,7 +10,7 @@ ghost use Rattle.pc_world.specs.Steps.{entries_of};
 ghost use Rattle.pc_world.specs.Replay.{PlaysLine, TakesTurn, Finishes, Sends, Ends, Completes, Refuses};
 
 use crate::laws::{refused_once, refused_or_run};
-use crate::reading::{asking, read_event};
+use crate::reading::read_event;
 use crate::turn::Turn;
 use crate::world::World;
 use pc_base::{Failed, Sink, Source, write_all};
@@ -180,10 +180,8 @@ fn play_line(alloc: Global, line: &[u8], world: &mut World, text: &mut Vec<u8>) 
     ensures { PlaysLine world.old world.new text.old.items text.new.items line.now result }
 {
     // Most lines are what a user asks who is there, and are played without an event.
-    if let Some((user, words)) = asking(line) {
-        if world.is_user(user) {
-            return play_asked(alloc, user, words, world, text);
-        }
+    if let Some((user, words)) = world.asking(line) {
+        return play_asked(alloc, user, words, world, text);
     }
     play_event(alloc, line, world, text)
 }

@@ -147,9 +147,7 @@ fn answer_request<T: Transcript>(
     ensures err { OnErr result (T.keeps transcript.old transcript.new) }
 {
     match request {
-        Request::CreateMailbox { mailbox } => {
-            create_mailbox(alloc, user, mailbox, transcript)
-        }
+        Request::CreateMailbox { mailbox } => { create_mailbox(alloc, user, mailbox, transcript) }
         Request::ListMailboxes => list_mailboxes(alloc, user, transcript),
         _ => refuse(alloc, user, &Refusal::UnknownOperation, transcript),
     }

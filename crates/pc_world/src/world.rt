@@ -3,11 +3,13 @@
 ghost use Rattle.std.specs.Prelude.{◌≡◌, [], ◌∷◌, is_some, IsTrue, IfSome, IfOk, OnOk, OnErr};
 ghost use Rattle.pc_base.specs.Name.{is_name};
 ghost use Rattle.pc_world.specs.Events.{IsAsked};
+ghost use Rattle.pc_world.specs.Reading.{IsAsking};
 ghost use Rattle.pc_world.specs.declared.event.Asked.{Asked as AskedValue};
 ghost use Rattle.pc_world.specs.declared.event.Event.TheVariants.{Ask};
 ghost use Rattle.pc_world.specs.Steps.{Prints, Step, enrolled, entries_of, fits as suits, printed_user};
 
 use crate::event::{Asked, Event};
+use crate::reading::asking_as;
 use crate::repository::{answer, answer_text};
 use crate::transcript::Transcript;
 use crate::user::User;
@@ -89,18 +91,15 @@ impl World {
         }
     }
 
-    /// Whether this word is the name of a user.
-    pub(crate) fn is_user(&self, word: &[u8]) -> bool
-        ensures { IsTrue result → IsTrue (is_name word.now) × IsTrue (is_some (entries_of self.now word.now)) }
+    /// The user who is there that a line says asks, and the text behind, where the line says it with
+    /// single spaces.
+    pub(crate) fn asking<'a>(&self, line: &'a [u8]) -> Option<(&'a [u8], &'a [u8])>
+        ensures { IfSome result (λ found. IsAsking line.now found.0.now found.1.now × IsTrue (is_name found.0.now) × IsTrue (is_some (entries_of self.now found.0.now))) }
     {
         let Some(user) = &self.user else {
-            return false;
+            return None;
         };
-        let name = user.name();
-        if name.bytes() != word {
-            return false;
-        }
-        true
+        asking_as(line, user.name().bytes())
     }
 
     fn enrol<T: Transcript>(
