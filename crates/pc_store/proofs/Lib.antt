@@ -8,3 +8,4 @@ pub mod OpenedLemmas
 pub mod DueLemmas
 pub mod CommitLemmas
 pub mod FaultLemmas
+pub mod MakingLemmas

@@ -3,7 +3,7 @@ use Rattle.std.specs.Prelude.{◌≡◌, ◌⊎◌, ℕ, ◌+◌, ◌^◌, ◌<�
 use Rattle.std.specs.List.{AllByRecursion}
 use Rattle.pc_base.specs.declared.machine.Machine.{Ghosts}
 use Rattle.pc_disk.specs.Images.{Images, InArea}
-use Rattle.pc_log.specs.Making.{OldUnmadeOrNew}
+use Rattle.pc_log.specs.Making.{NoneDue, OldUnmadeOrNew, OnlyLastDue, clear_calls}
 use Rattle.pc_log.specs.Area.{Head, is_made}
 use Rattle.pc_log.specs.Reading.{Reached, behind_head, head_of, next_of}
 use Rattle.pc_log.specs.Opening.{Reads}
@@ -112,3 +112,18 @@ OnDisk (Err fault) holds = holds fault.disk
 -- area that is as it was or isn't made, or the new one whole
 abbrev pub WhileMade : Head → Images → (Images → Type 0) → Images → Type 0
 WhileMade head seen may_leave left = may_leave left ⊎ InArea 0 (OldUnmadeOrNew head) seen left
+
+-- making a store makes a sync, the device calls that take away what stands, and four more; or those up to
+-- the one that failed
+abbrev pub MakingCalls : {T : Type 0} → Result T StoreFault → List ℕ → ℕ → ℕ → Type 0
+MakingCalls (Ok value) area before now = now ≡ before + clear_calls area + 5
+MakingCalls (Err fault) area before now = (before ≤ now) × (now ≤ before + clear_calls area + 5)
+
+-- they fail at the first that is due to fail, which is the last that is made; and a read among them fails only
+-- where the next call is due to fail, or where too much would be taken
+abbrev pub MakesWhereDue : {T : Type 0} → Result T StoreFault → ℕ → ℕ → (ℕ → Type 0) → ℕ → Type 0
+MakesWhereDue (Ok value) from to due taken = NoneDue from to due
+MakesWhereDue (Err NotMade) from to due taken = NoneDue from to due
+MakesWhereDue (Err Device) from to due taken = OnlyLastDue from to due ⊎ (NoneDue from to due × DueOrTaken due to taken 1)
+MakesWhereDue (Err (Malformed area place)) from to due taken = NoneDue from to due
+MakesWhereDue (Err Memory) from to due taken = Unit {0}

@@ -1,11 +1,11 @@
 //! Making a store.
 
-ghost use Rattle.std.specs.Prelude.{◌≡◌, ◌⊎◌, ℕ, ◌<◌, ◌≤◌, false, [], IfOk, IfErr};
+ghost use Rattle.std.specs.Prelude.{◌≡◌, ◌⊎◌, ℕ, ◌<◌, ◌≤◌, false, [], IfOk, IfErr, OnOk};
 ghost use Rattle.pc_base.specs.Stream.{Rose};
-ghost use Rattle.pc_disk.specs.Images.{area_of};
-ghost use Rattle.pc_disk.specs.Outcomes.{LeavesOnly};
-ghost use Rattle.pc_log.specs.Area.{is_made};
-ghost use Rattle.pc_store.specs.Opening.{IsOutside, OnDevice, WhileMade};
+ghost use Rattle.pc_disk.specs.Images.{area_of, with_area};
+ghost use Rattle.pc_disk.specs.Outcomes.{LeavesOnly, SameDue};
+ghost use Rattle.pc_log.specs.Area.{fresh, is_made};
+ghost use Rattle.pc_store.specs.Opening.{IsOutside, MakesWhereDue, MakingCalls, OnDevice, WhileMade};
 ghost use Rattle.pc_store.specs.Reading.{HoldsSettled};
 
 use crate::fault::StoreFault;
@@ -28,10 +28,14 @@ pub(crate) fn make<M: Machine, D: Disk>(
 ) -> Result<History<M>, StoreFault>
     requires { D.tells → is_made (area_of 0 (D.seen disk.old)) ≡ false }
     ensures made { IfOk result (λ history. (history.generation ≡ 1) × (history.first ≡ 1) × (history.base ≡ M.saved M.begin) × (history.trail.items ≡ []) × (history.state ≡ M.numbered M.begin 1)) }
+    ensures seen { D.tells → OnOk result (D.seen disk.new ≡ with_area 0 (fresh (record { kind = M.KIND; generation = 1; first = 1; base = M.saved M.begin })) (D.seen disk.old)) }
     ensures holds { IfOk result (HoldsSettled M.Machine.own D.tells D.seen D.may_leave disk.new) }
     ensures outside { IfErr result IsOutside }
     ensures cause { OnDevice result (Rose (D.faults disk.old) (D.faults disk.new)) }
     ensures faults { D.faults disk.old ≤ D.faults disk.new }
+    ensures calls { D.tells → MakingCalls result (area_of 0 (D.seen disk.old)) (D.moment disk.old) (D.moment disk.new) }
+    ensures due { D.tells_due → MakesWhereDue result (D.moment disk.old) (D.moment disk.new) (D.due disk.old) (D.taken disk.old) }
+    ensures ahead { D.tells_due → SameDue (D.moment disk.new) (D.due disk.old) (D.due disk.new) }
     ensures any_moment { D.tells → LeavesOnly D.moment D.left_since disk.old disk.new (WhileMade (record { kind = M.KIND; generation = 1; first = 1; base = M.saved M.begin }) (D.seen disk.old) (D.may_leave disk.old)) }
 {
     let mut state = M::empty(alloc)?;

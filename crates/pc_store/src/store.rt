@@ -3,15 +3,15 @@
 ghost use Rattle.std.specs.Prelude.{◌≡◌, ◌⊎◌, ◌↔◌, ℕ, ◌+◌, ◌-◌, ◌^◌, ◌<◌, ◌≤◌, true, false, List, [], ◌∷◌, ◌++◌, length, None, Some, MatchOption, IfOk, IfErr, OnOk, OnErr};
 ghost use Rattle.pc_base.specs.Stream.{Rose};
 ghost use Rattle.pc_disk.specs.Alarm.{IsDue, unarmed};
-ghost use Rattle.pc_disk.specs.Images.{Images, area_of, other_of, InArea};
+ghost use Rattle.pc_disk.specs.Images.{Images, area_of, other_of, with_area, InArea};
 ghost use Rattle.pc_disk.specs.Outcomes.{Only, LeavesOnly, SameDue};
 ghost use Rattle.pc_disk.specs.StepFaults.{LeadsOn};
-ghost use Rattle.pc_log.specs.Area.{Head, front, is_made};
+ghost use Rattle.pc_log.specs.Area.{Head, fresh, front, is_made};
 ghost use Rattle.pc_log.specs.Making.{OldUnmadeOrNew};
 ghost use Rattle.pc_store.specs.History.{IsReplay, StandsFor, written_of};
 ghost use Rattle.pc_store.specs.Store.{Acknowledges, OpensInDoubt, SameHistory, next_number, room_of};
 ghost use Rattle.pc_store.specs.Reading.{HoldsSettled, head_of_history};
-ghost use Rattle.pc_store.specs.Opening.{DueOrTaken, FailsWhereDue, FirstFault, IsFaultOf, IsOutside, IfDevice, OnDevice, OnDisk, OpensAs, RefusesAs, SyncsOnce, WhileMade, answer_of};
+ghost use Rattle.pc_store.specs.Opening.{DueOrTaken, FailsWhereDue, FirstFault, IsFaultOf, IsOutside, IfDevice, MakesWhereDue, MakingCalls, OnDevice, OnDisk, OpensAs, RefusesAs, SyncsOnce, WhileMade, answer_of};
 ghost use Rattle.pc_store.specs.declared.fault.StoreFault.TheVariants as store;
 
 use crate::fault::{OpenFault, StoreFault};
@@ -66,6 +66,15 @@ impl<M: Machine, D: Disk + Drop> Store<M, D> {
         ensures outside { IfErr result (λ fault. IsOutside fault.cause) }
         ensures cause { IfErr result (λ fault. IfDevice fault.cause (Rose (D.faults disk) (D.faults fault.disk))) }
         ensures faults { OnDisk result (λ now. D.faults disk ≤ D.faults now) }
+
+        // Then area 0 is the one of no history, and the other is as it was.
+        ensures seen { D.tells → IfOk result (λ store. D.seen store.disk ≡ with_area 0 (fresh (record { kind = M.KIND; generation = 1; first = 1; base = M.saved M.begin })) (D.seen disk)) }
+
+        // It makes a sync, the device calls that take away what stands, and four more; or those up to the one
+        // that failed.
+        ensures calls { D.tells → OnDisk result (λ now. MakingCalls (answer_of result) (area_of 0 (D.seen disk)) (D.moment disk) (D.moment now)) }
+        ensures due { D.tells_due → OnDisk result (λ now. MakesWhereDue (answer_of result) (D.moment disk) (D.moment now) (D.due disk) (D.taken disk)) }
+        ensures ahead { D.tells_due → OnDisk result (λ now. SameDue (D.moment now) (D.due disk) (D.due now)) }
 
         // A crash at any moment leaves what it might have left, or an area that isn't made, or the new one.
         ensures any_moment { D.tells → OnDisk result (λ now. LeavesOnly D.moment D.left_since disk now (WhileMade (record { kind = M.KIND; generation = 1; first = 1; base = M.saved M.begin }) (D.seen disk) (D.may_leave disk))) }
@@ -130,6 +139,9 @@ impl<M: Machine, D: Disk + Drop> Store<M, D> {
         ensures calls { SyncsOnce result (D.moment self.old.disk) (D.moment self.new.disk) }
         ensures due { D.tells_due → FailsWhereDue result (D.due self.old.disk (D.moment self.old.disk)) (DueOrTaken (D.due self.old.disk) (D.moment self.old.disk + 1) (D.taken self.old.disk) (2 ^ 31)) }
         ensures ahead { D.tells_due → SameDue (D.moment self.new.disk) (D.due self.old.disk) (D.due self.new.disk) }
+
+        // It reads little more than the base and the entries.
+        ensures taken { OnOk result (D.taken self.new.disk ≤ D.taken self.old.disk + length (front self.new.head (written_of M.Machine.own self.new.trail)) + 5) }
 
         // The disk reads as before, and a crash at any moment leaves what it might have left.
         ensures seen { D.tells → D.seen self.new.disk ≡ D.seen self.old.disk }

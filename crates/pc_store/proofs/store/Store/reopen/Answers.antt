@@ -1,4 +1,9 @@
+use Rattle.std.proofs.Common.{◌≡◌, ℕ, ◌+◌, ◌≤◌, length, ap, arith}
 use Rattle.std.proofs.lemmas.Result.{err_from_is_err_and}
+use Rattle.pc_log.specs.Area.{front}
+use Rattle.pc_log.specs.Logs.{LogState}
+use Rattle.pc_store.specs.History.{written_of}
+use Rattle.pc_store.specs.Reading.{head_of_history}
 use Rattle.pc_store.proofs.OpenedLemmas.{held_acknowledged, held_sound, outside_again, same_again, sound_still}
 use Rattle.pc_store.proofs.store.Store.reopen.Goals as goal
 
@@ -24,3 +29,11 @@ returns-clause-same g c told =
 
 pub returns-clause-acknowledged : goal.returns-clause-acknowledged
 returns-clause-acknowledged g c told = held_acknowledged g.M.Machine g.D.Disk.tells g.D.Disk.seen g.D.Disk.may_leave c.read_settled.new.disk c.in_ok-history.history told c.in_ok-history.ensures.found
+
+pub returns-clause-taken : goal.returns-clause-taken
+returns-clause-taken g c =
+    let history = c.in_ok-history.history in
+    let size : ℕ = length (front (head_of_history g.M.Machine history) (written_of g.M.Machine history.trail.items)) in
+    let gate : history.log.gate ≡ size = ap (λ (l : LogState). l.gate) c.in_ok-history.ensures.found.holds.log_is in
+    let most : g.D.Disk.taken c.read_settled.new.disk ≤ g.D.Disk.taken c.self.inside.disk + size + 5 = omega (arith, gate, c.in_ok-history.ensures.taken) in
+    rw (← c.self.view_is) most
