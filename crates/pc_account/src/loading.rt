@@ -33,6 +33,7 @@ impl Account {
     /// is past all that there can be.
     pub fn load(alloc: Global, bytes: &[u8]) -> Result<Account, ReadFault>
         ensures found { IfOk result (λ state. IsCanonicalState state × (spelled_record state.held ≡ bytes.now)) }
+        ensures next { IfOk result (λ state. state.next ≡ 2 ^ 63) }
         ensures fault { FaultAt result (IsRecordFault bytes.now) }
         ensures within { FaultAt result (λ place. place ≤ length bytes.now) }
     {
