@@ -64,8 +64,3 @@ asks_by_name line name behind rest text short begins splits ends named is =
       text_is = is ∙ sym after;
     } in
     subst (λ (l : List ℕ). IsAsking l name text) (sym begins) asking
-
--- a text whose first byte is a space
-pub between : (rest : List ℕ) → 0 < length rest → slice_index_or rest 0 0 ≡ 32 → is_between rest ≡ true
-between [] some first = absurd (omega (arith, some))
-between (byte ∷ bytes) some first = ap is_space first

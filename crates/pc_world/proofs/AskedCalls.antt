@@ -1,10 +1,12 @@
 -- What texts ask for whose operation is known, by what reading their arguments gave.
-use Rattle.std.proofs.Common.{◌≡◌, ℕ, List, Some}
+use Rattle.std.proofs.Common.{◌≡◌, ℕ, ◌≤◌, List, ◌∷◌, ◌++◌, length, codes, Some, refl, ap}
 use Rattle.pc_wire.specs.Words.{words_of}
 use Rattle.pc_request.specs.Argument.{AreSpelled}
 use Rattle.pc_request.specs.Fault.{kinds_of, fault_of_arguments}
+use Rattle.pc_request.specs.Operation.{word_of, operations, operation_named}
 use Rattle.pc_request.specs.Request.{call_of}
 use Rattle.pc_request.specs.declared.operation.Operation.{Operation}
+use Rattle.pc_request.specs.declared.operation.Operation.TheVariants.{CreateMailbox}
 use Rattle.pc_request.specs.declared.request.Request.{Request}
 use Rattle.pc_request.specs.declared.request.RequestFault.{RequestFault}
 use Rattle.pc_request.proofs.Grammar.{called-request, called-fault}
@@ -20,3 +22,8 @@ IsAsked-read request words text spelled (short, call) =
 pub IsAsked-faulty : (operation : Operation) (fault : RequestFault) (words text : List ℕ) → fault_of_arguments (kinds_of operation) (words_of words) ≡ Some fault → IsCall operation words text → IsAsked text (Faulty fault)
 IsAsked-faulty operation fault words text faulty (short, call) =
     (short, called-fault operation (words_of text) (words_of words) fault call faulty)
+
+-- a text that asks for a mailbox, in capitals
+pub IsCall-create : (text words : List ℕ) → length text ≤ 512 → text ≡ codes "CREATE-MAILBOX" ++ 32 ∷ words → IsCall CreateMailbox words text
+unfolding word_of operations
+IsCall-create text words short is = (short, (codes "CREATE-MAILBOX", (ap words_of is, refl, refl)))

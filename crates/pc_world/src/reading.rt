@@ -1,6 +1,6 @@
 //! Lines of a script, read as events.
 
-ghost use Rattle.std.specs.Prelude.{◌≡◌, ◌≤◌, false, [], ◌∷◌, length, IsTrue, IfOk, IfErr, OnErr, IfSome, Ok, Err, Some};
+ghost use Rattle.std.specs.Prelude.{◌≡◌, ◌≤◌, false, [], ◌∷◌, ◌++◌, length, IsTrue, IfOk, IfErr, OnErr, IfSome, Ok, Err, Some};
 ghost use Rattle.pc_base.specs.Name.{is_name};
 ghost use Rattle.pc_request.specs.Request.{IsRequest};
 ghost use Rattle.pc_request.specs.Fault.{fault_of};
@@ -107,24 +107,27 @@ pub(crate) fn asking_as<'a>(line: &'a [u8], name: &[u8]) -> Option<(&'a [u8], &'
     if MOST_LINE < line.len() {
         return None;
     }
-    if line.len() < 4 {
+    let others = behind(line, b"ask")?;
+    let text = behind(others, name)?;
+    Some((&others[..name.len()], without_spaces(text)))
+}
+
+/// What follows this word and the one space behind it, where the text begins with them.
+pub(crate) fn behind<'a>(text: &'a [u8], word: &[u8]) -> Option<&'a [u8]>
+    ensures { IfSome result (λ rest. text.now ≡ word.now ++ 32 ∷ rest.now) }
+{
+    if text.len() < word.len() {
         return None;
     }
-    let (word, behind) = line.split_at(4);
-    if word != b"ask ".as_slice() {
+    let (front, rest) = text.split_at(word.len());
+    if front != word {
         return None;
     }
-    if behind.len() <= name.len() {
+    let (first, rest) = rest.split_first()?;
+    if *first != b' ' {
         return None;
     }
-    let (user, rest) = behind.split_at(name.len());
-    if user != name {
-        return None;
-    }
-    if rest[0] != b' ' {
-        return None;
-    }
-    Some((user, without_spaces(rest)))
+    Some(rest)
 }
 
 /// What a text asks for.

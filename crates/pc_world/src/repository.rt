@@ -17,7 +17,7 @@ ghost use Rattle.pc_world.specs.Repository.{fault_head, reply_to_answer, reply_t
 ghost use Rattle.pc_world.specs.Steps.{printed_reply};
 
 use crate::event::Asked;
-use crate::reading::MOST_REQUEST;
+use crate::reading::{MOST_REQUEST, behind};
 use crate::transcript::Transcript;
 use crate::user::User;
 use pc_account::{Answer, AskFault, Question, Wish};
@@ -60,6 +60,10 @@ pub(crate) fn answer_text<T: Transcript>(
 {
     if text.len() > MOST_REQUEST {
         return refuse(alloc, user, &Refusal::LineTooLong, transcript);
+    }
+    // Most requests are for a mailbox, in capitals.
+    if let Some(words) = behind(text, b"CREATE-MAILBOX") {
+        return answer_create_mailbox(alloc, user, words, transcript);
     }
     let Some((operation, words)) = Operation::called(text) else {
         return refuse(alloc, user, &Refusal::UnknownOperation, transcript);
