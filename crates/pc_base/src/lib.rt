@@ -4,6 +4,7 @@
 mod bytes;
 mod failure;
 mod line;
+mod link;
 mod lists;
 mod machine;
 mod name;
@@ -18,6 +19,7 @@ mod source;
 pub use bytes::Bytes;
 pub use failure::{Failed, Memory, ReadFault};
 pub use line::{Line, LineFault};
+pub use link::{Link, MemoryLink};
 pub use lists::{Lines, Names, Printed, Uids};
 pub use machine::Machine;
 pub use name::{Name, Password, StoreName};

@@ -53,6 +53,25 @@ impl Line {
         Ok(Line { bytes })
     }
 
+    /// The line of bytes that are known to be one.
+    pub fn of(alloc: Global, bytes: &[u8]) -> Result<Line, Memory>
+        requires { IsTrue (fits bytes.now) }
+        ensures { IfOk result (λ line. line ≡ bytes.now) }
+    {
+        match Line::copy_of(alloc, bytes) {
+            Ok(line) => Ok(line),
+            Err(LineFault::Memory) => Err(Memory),
+            Err(_) => unreachable!(),
+        }
+    }
+
+    /// Another line of the same bytes.
+    pub fn copy(&self, alloc: Global) -> Result<Line, Memory>
+        ensures { IfOk result (λ copy. copy ≡ self.now) }
+    {
+        Line::of(alloc, self.bytes())
+    }
+
     /// The bytes of the line.
     pub fn bytes(&self) -> &[u8]
         ensures value { result.now ≡ self.now }

@@ -42,6 +42,24 @@ impl Lines {
         Ok(())
     }
 
+    /// A list of the same lines as these.
+    pub fn copy_of(alloc: Global, lines: &[Line]) -> Result<Lines, Memory>
+        ensures { IfOk result (λ copy. copy ≡ lines.now) }
+    {
+        let mut copy = Lines::new(alloc);
+        for line in lines {
+            copy.push(line.copy(alloc)?)?;
+        }
+        Ok(copy)
+    }
+
+    /// Another list of the same lines.
+    pub fn copy(&self, alloc: Global) -> Result<Lines, Memory>
+        ensures { IfOk result (λ copy. copy ≡ self.now) }
+    {
+        Lines::copy_of(alloc, self.as_slice())
+    }
+
     /// The items, in order.
     pub fn as_slice(&self) -> &[Line]
         ensures { result.now ≡ self.now }

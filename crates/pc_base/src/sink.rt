@@ -1,6 +1,6 @@
 //! Where bytes go.
 
-ghost use Rattle.std.specs.Prelude.{◌≡◌, ℕ, ◌-◌, ◌<◌, min, List, Option, IfOk, OnOk, IsErr, [], length};
+ghost use Rattle.std.specs.Prelude.{◌≡◌, ℕ, ◌-◌, ◌<◌, min, List, Option, None, IfOk, OnOk, IsErr, [], length};
 ghost use Rattle.std.specs.Io.{WritesAtMost};
 ghost use Rattle.std.specs.Io.KnownBytes.{WriteAppends};
 ghost use Rattle.pc_base.specs.Stream.{HasCause, WritesAll};
@@ -17,18 +17,23 @@ pub trait Sink {
     /// The count of faults, which never falls.
     ghost faults: { Self → ℕ };
 
+    /// What a write leaves as it is: of a link, the bytes left.
+    ghost beside: { Self → Option (List ℕ) } = { λ _. None };
+
     /// Writes some bytes from the front, at least one where there is one, and answers how many.
     /// `Failed` comes only where the count of faults rose, and nothing was written then.
     fn write(&mut self, bytes: &[u8]) -> Result<usize, Failed>
         ensures bound { WritesAtMost result bytes.now }
         ensures some { 0 < length bytes.now → IfOk result (λ count. 0 < count) }
         ensures content { WriteAppends (written self.old) (written self.new) result bytes.now }
+        ensures beside { beside self.new ≡ beside self.old }
         ensures cause { HasCause (faults self.old) (faults self.new) result };
 }
 
 /// Writes all of the bytes. Where it fails, a front of them was written.
 pub fn write_all<K: Sink>(sink: &mut K, bytes: &[u8]) -> Result<(), Failed>
     ensures content { WritesAll (K.written sink.old) (K.written sink.new) result bytes.now }
+    ensures beside { K.beside sink.new ≡ K.beside sink.old }
     ensures cause { HasCause (K.faults sink.old) (K.faults sink.new) result }
 {
     let mut rest = bytes;

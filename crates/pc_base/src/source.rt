@@ -1,6 +1,6 @@
 //! Where bytes come from.
 
-ghost use Rattle.std.specs.Prelude.{◌≡◌, ℕ, ◌-◌, ◌<◌, ◌↔◌, min, List, length, Option, IsErr, IfOk, OnOk};
+ghost use Rattle.std.specs.Prelude.{◌≡◌, ℕ, ◌-◌, ◌<◌, ◌↔◌, min, List, length, Option, None, IsErr, IfOk, OnOk};
 ghost use Rattle.std.specs.Io.{ReadsAtMost};
 ghost use Rattle.std.specs.Io.KnownBytes.{ReadConsumes};
 ghost use Rattle.pc_base.specs.Stream.{HasCause};
@@ -16,11 +16,15 @@ pub trait Source {
     /// The count of faults, which never falls.
     ghost faults: { Self → ℕ };
 
+    /// What a read leaves as it is: of a link, the bytes written.
+    ghost beside: { Self → Option (List ℕ) } = { λ _. None };
+
     /// Reads some bytes into the front of `into` and answers how many. For a buffer that isn't
     /// empty none says that the end was reached. `Failed` comes only where the count of faults rose.
     fn read(&mut self, into: &mut [u8]) -> Result<usize, Failed>
         ensures bound { ReadsAtMost result into.new }
         ensures bytes { ReadConsumes (left self.old) (left self.new) result into.new }
+        ensures beside { beside self.new ≡ beside self.old }
         ensures cause { HasCause (faults self.old) (faults self.new) result };
 }
 

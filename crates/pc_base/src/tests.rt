@@ -1,5 +1,6 @@
 //! Tests on rows that were worked out by hand, and of what no clause says.
 
+mod links;
 mod tally;
 
 use crate::{

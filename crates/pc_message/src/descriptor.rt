@@ -5,7 +5,7 @@ ghost use Rattle.pc_message.specs.Descriptor.{descriptor_of, first_kept};
 ghost use Rattle.pc_message.specs.Header.{field_text, has_name as named};
 
 use crate::header::{Field, has_name, next_field, trimmed, unfolded};
-use crate::message::{Message, line_of};
+use crate::message::Message;
 use pc_base::{Line, Memory};
 use std::alloc::Global;
 
@@ -97,7 +97,7 @@ fn cut_text(alloc: Global, field: &Field) -> Result<Line, Memory>
 {
     let whole = unfolded(alloc, field)?;
     let text = trimmed(&whole);
-    line_of(alloc, &text[..128usize.min(text.len())])
+    Line::of(alloc, &text[..128usize.min(text.len())])
 }
 
 fn or_empty(alloc: Global, text: Option<Line>) -> Result<Line, Memory>
@@ -105,6 +105,6 @@ fn or_empty(alloc: Global, text: Option<Line>) -> Result<Line, Memory>
 {
     match text {
         Some(line) => Ok(line),
-        None => line_of(alloc, &[]),
+        None => Line::of(alloc, &[]),
     }
 }

@@ -1,7 +1,7 @@
 //! The fields of a message's header.
 
 ghost use Rattle.std.specs.Prelude.{◌≡◌, ◌≤◌, ◌++◌, ◌==◌, false, length, ◌<◌, MatchOption, IfSome, IfOk};
-ghost use Rattle.std.specs.List.{concat, prefix_len, position, after_first};
+ghost use Rattle.std.specs.List.{concat, prefix_len, position, position_or_len, after_first};
 ghost use Rattle.pc_base.specs.Line.{has_feed};
 ghost use Rattle.pc_message.specs.Header.{IsField, IsHeaderEnd, is_blank as blank, is_folded as folded, has_name as named, trimmed as text_trimmed, trimmed_front as front_trimmed, trimmed_back as back_trimmed};
 
@@ -34,6 +34,19 @@ pub fn next_field(lines: &[Line]) -> Option<Field<'_>>
         folded: &after[..count],
         rest: &after[count..],
     })
+}
+
+/// How many lines stand before the first empty one, or all.
+pub fn header_count(lines: &[Line]) -> usize
+    ensures count { result ≡ position_or_len (λ line. length line == 0) lines.now }
+    ensures bound { result ≤ length lines.now }
+{
+    for (count, line) in lines.iter().enumerate() {
+        if line.bytes().is_empty() {
+            return count;
+        }
+    }
+    lines.len()
 }
 
 /// How many lines from the front on begin with a blank.

@@ -1,12 +1,13 @@
 //! A message: a list of lines of bounded size.
 
-ghost use Rattle.std.specs.Prelude.{◌≡◌, ℕ, ◌+◌, ◌≤◌, IfOk, IfErr, IsTrue};
-ghost use Rattle.pc_base.specs.Line.{is_line};
+ghost use Rattle.std.specs.Prelude.{◌≡◌, ℕ, ◌+◌, ◌≤◌, IfOk, IfErr};
 ghost use Rattle.std.specs.Option.{SomeIff};
 ghost use Rattle.std.specs.Result.{OkIff};
+ghost use Rattle.pc_message.specs.Header.{header_of};
 ghost use Rattle.pc_message.specs.Message.{size_of, weight_of};
 
-use pc_base::{Line, LineFault, Lines, Memory};
+use crate::header::header_count;
+use pc_base::{Line, Lines, Memory};
 use std::alloc::Global;
 use std::marker::Model;
 
@@ -55,6 +56,21 @@ impl Message {
         &self.lines
     }
 
+    /// The message, as the lines that it is.
+    pub fn into_lines(self) -> Lines
+        ensures { result ≡ self }
+    {
+        self.lines
+    }
+
+    /// The lines before the first empty one, or all.
+    pub fn header(&self, alloc: Global) -> Result<Lines, Memory>
+        ensures { IfOk result (λ lines. lines ≡ header_of self.now) }
+    {
+        let lines = self.lines.as_slice();
+        Lines::copy_of(alloc, &lines[..header_count(lines)])
+    }
+
     /// What a kept message counts for: its size and 256 bytes more.
     pub fn weight(&self) -> u32
         ensures weight { result ≡ weight_of self.now }
@@ -68,7 +84,7 @@ impl Message {
         ensures { IfOk result (λ copy. copy ≡ self.now) }
     {
         Ok(Message {
-            lines: copy_of_lines(alloc, self.lines.as_slice())?,
+            lines: self.lines.copy(alloc)?,
             bytes: self.bytes,
         })
     }
@@ -86,26 +102,4 @@ fn size_within(lines: &[Line]) -> Option<u32>
         }
     }
     Some(size)
-}
-
-fn copy_of_lines(alloc: Global, lines: &[Line]) -> Result<Lines, Memory>
-    ensures { IfOk result (λ copy. copy ≡ lines.now) }
-{
-    let mut copy = Lines::new(alloc);
-    for line in lines {
-        copy.push(line_of(alloc, line.bytes())?)?;
-    }
-    Ok(copy)
-}
-
-/// A line of bytes that are known to be one.
-pub fn line_of(alloc: Global, bytes: &[u8]) -> Result<Line, Memory>
-    requires { IsTrue (is_line bytes.now) }
-    ensures { IfOk result (λ line. line ≡ bytes.now) }
-{
-    match Line::copy_of(alloc, bytes) {
-        Ok(line) => Ok(line),
-        Err(LineFault::Memory) => Err(Memory),
-        Err(_) => unreachable!(),
-    }
 }

@@ -78,6 +78,25 @@ fn size_is_limited(rt: HostRuntime) -> Result<(), Fail> {
 }
 
 #[test]
+fn header_ends_at_the_first_empty_line(rt: HostRuntime) -> Result<(), Fail> {
+    let rows: [(&[&str], usize); 4] = [
+        (&["To: ann", " bob", "", "text", ""], 2),
+        (&["To: ann", " "], 2),
+        (&["", "To: ann"], 0),
+        (&[], 0),
+    ];
+    for (texts, count) in rows {
+        let message = message_of(rt.alloc(), texts)?;
+        let header = message.header(rt.alloc())?;
+        let found = header.as_slice().iter().map(Line::bytes);
+        let wanted = texts[..count].iter().map(|text| text.as_bytes());
+        assert!(rt; found.eq(wanted), "{count}");
+        assert_eq!(rt; message.into_lines().as_slice().len(), texts.len());
+    }
+    Ok(())
+}
+
+#[test]
 fn fields_are_read(rt: HostRuntime) -> Result<(), Fail> {
     let long =
         "subject:\t 123456789 123456789 123456789 123456789 123456789 123456789 123456789 123456789 123456789 123456789 123456789 123456789 123456789 ";
