@@ -1,6 +1,6 @@
 //! What a client was shown of its update list.
 
-ghost use Rattle.std.specs.Prelude.{◌≡◌, [], ◌∷◌, ◌++◌, OnOk, OnErr};
+ghost use Rattle.std.specs.Prelude.{◌≡◌, [], ◌∷◌, ◌++◌, IfOk, OnOk, OnErr};
 
 use pc_base::Memory;
 use pc_history::Listed;
@@ -46,6 +46,15 @@ impl Shown {
     {
         self.changes.push(listed)?;
         Ok(())
+    }
+
+    /// Another list of the same.
+    pub fn copy(&self, alloc: Global) -> Result<Shown, Memory>
+        ensures { IfOk result (λ copy. copy ≡ self.now) }
+    {
+        let mut changes = Vec::new(alloc);
+        changes.extend_from_slice(self.changes.as_slice())?;
+        Ok(Shown { changes })
     }
 
     /// The items, in order.

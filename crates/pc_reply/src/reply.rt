@@ -1,5 +1,6 @@
 //! Replies.
 
+ghost use Rattle.std.specs.Prelude.{◌≡◌};
 ghost use Rattle.pc_base.specs.Stream.{HasCause, WritesAll};
 ghost use Rattle.pc_reply.specs.Reply.{CanBeSent, IsReply, written_reply};
 
@@ -20,6 +21,7 @@ impl Reply {
     /// was written. Lines behind another head aren't written.
     pub fn write<K: Sink>(&self, sink: &mut K) -> Result<(), Failed>
         ensures content { WritesAll (K.written sink.old) (K.written sink.new) result (written_reply self.now) }
+        ensures beside { K.beside sink.new ≡ K.beside sink.old }
         ensures cause { HasCause (K.faults sink.old) (K.faults sink.new) result }
 
         // What is written is the reply, where it's one that can be sent.

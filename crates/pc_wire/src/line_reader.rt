@@ -58,6 +58,7 @@ impl LineReader {
         ensures limit { self.new.limit ≡ self.old.limit }
         ensures lines { Fetches self.old self.new (S.left source.old) (S.left source.new) result }
         ensures front { TakesFront (S.left source.old) (S.left source.new) }
+        ensures beside { S.beside source.new ≡ S.beside source.old }
         ensures cause { HasCause (S.faults source.old) (S.faults source.new) result }
     {
         // Most lines lie whole in what was read ahead, and are shown where they are.
@@ -139,6 +140,7 @@ fn seek_line<S: Source>(
         (state_of Held.Begun feed.old buffer.old) (state_of result.0 feed.new buffer.new)
         (S.left source.old) (S.left source.new) result.1 }
     ensures front { TakesFront (S.left source.old) (S.left source.new) }
+    ensures beside { S.beside source.new ≡ S.beside source.old }
     ensures cause { HasCause (S.faults source.old) (S.faults source.new) result.1 }
 {
     let Ok(fetched) = seek_feed(buffer, feed, source) else {
@@ -166,6 +168,7 @@ fn seek_feed<S: Source>(
         (prepend_known buffer.new (S.left source.new)) result }
     ensures drained { result ≡ Ok Fetched.End → buffer.new ≡ [] }
     ensures front { TakesFront (S.left source.old) (S.left source.new) }
+    ensures beside { S.beside source.new ≡ S.beside source.old }
     ensures cause { HasCause (S.faults source.old) (S.faults source.new) result }
 {
     while buffer.fill(source)? {

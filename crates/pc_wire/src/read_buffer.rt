@@ -50,6 +50,7 @@ impl ReadBuffer {
             (prepend_known self.old (S.left source.old))
             (prepend_known self.new (S.left source.new)) result }
         ensures front { TakesFront (S.left source.old) (S.left source.new) }
+        ensures beside { S.beside source.new ≡ S.beside source.old }
         ensures cause { HasCause (S.faults source.old) (S.faults source.new) result }
     {
         if self.start < self.end {

@@ -10,6 +10,7 @@ use pc_base::{Failed, Line, Lines, Sink, write_all};
 /// Writes the bytes and what ends a line. Where it fails, a front of that was written.
 pub fn write_line<K: Sink>(sink: &mut K, bytes: &[u8]) -> Result<(), Failed>
     ensures content { WritesAll (K.written sink.old) (K.written sink.new) result (written_line bytes.now) }
+    ensures beside { K.beside sink.new ≡ K.beside sink.old }
     ensures cause { HasCause (K.faults sink.old) (K.faults sink.new) result }
 {
     write_all(sink, bytes)?;
@@ -20,6 +21,7 @@ pub fn write_line<K: Sink>(sink: &mut K, bytes: &[u8]) -> Result<(), Failed>
 /// them. Where it fails, a front of that was written.
 pub fn write_body<K: Sink>(sink: &mut K, lines: &Lines) -> Result<(), Failed>
     ensures content { WritesAll (K.written sink.old) (K.written sink.new) result (written_body lines.now) }
+    ensures beside { K.beside sink.new ≡ K.beside sink.old }
     ensures cause { HasCause (K.faults sink.old) (K.faults sink.new) result }
     ensures body { OnOk result (IsBody lines.now (written_body lines.now)) }
 {
@@ -32,6 +34,7 @@ pub fn write_body<K: Sink>(sink: &mut K, lines: &Lines) -> Result<(), Failed>
 /// Writes one line of a body.
 fn write_content<K: Sink>(sink: &mut K, line: &Line) -> Result<(), Failed>
     ensures content { WritesAll (K.written sink.old) (K.written sink.new) result (written_content line.now) }
+    ensures beside { K.beside sink.new ≡ K.beside sink.old }
     ensures cause { HasCause (K.faults sink.old) (K.faults sink.new) result }
     ensures without_feed { has_feed line.now ≡ false }
 {

@@ -1,4 +1,4 @@
-use Rattle.std.proofs.Common.{ℕ, List, Ok, sym, subst, ◌∙◌, arith}
+use Rattle.std.proofs.Common.{ℕ, List, Ok, refl, sym, subst, ◌∙◌, arith}
 use Rattle.std.specs.Io.KnownBytes.{prepend_known}
 use Rattle.std.proofs.lemmas.Bool.{false≢true}
 use Rattle.pc_wire.specs.Reading.{Seeks}
@@ -7,7 +7,7 @@ use Rattle.pc_wire.proofs.ReaderLemmas.{Fills-true, TakesOpen-none, TakesOpen-ke
 use Rattle.pc_wire.proofs.line_reader.seek_feed.Goals as goal
 
 pub loop-buffer-init : goal.loop-buffer-init
-loop-buffer-init g c = (TakesOpen-none c.args.feed.now _ c.requires, omega arith, TakesFront-none _)
+loop-buffer-init g c = (TakesOpen-none c.args.feed.now _ c.requires, omega arith, TakesFront-none _, refl)
 
 pub returns-then-feed_ahead-clause-bytes : goal.returns-then-feed_ahead-clause-bytes
 returns-then-feed_ahead-clause-bytes g c =
@@ -34,7 +34,7 @@ pub loop-buffer-preserved : goal.loop-buffer-preserved
 loop-buffer-preserved g c =
     let filled = Fills-true _ _ _ c.in_ok-fill.field-0 c.in_ok-fill.ensures.bytes c.if-branch.true in
     let more = sym c.feed_ahead.ensures.whole ∙ c.if-feed_ahead.false in
-    (TakesOpen-turn _ _ _ _ _ _ _ _ _ c.loop-buffer.invariant.0 filled.0 c.feed_ahead.ensures.bytes more, omega (arith, c.loop-buffer.invariant.1, c.fill.ensures.cause.later), TakesFront-more _ _ _ c.loop-buffer.invariant.2 c.fill.ensures.front)
+    (TakesOpen-turn _ _ _ _ _ _ _ _ _ c.loop-buffer.invariant.0 filled.0 c.feed_ahead.ensures.bytes more, omega (arith, c.loop-buffer.invariant.1, c.fill.ensures.cause.later), TakesFront-more _ _ _ c.loop-buffer.invariant.2 c.fill.ensures.front, c.fill.ensures.beside ∙ c.loop-buffer.invariant.3)
 
 pub returns-then-feed_ahead-clause-front : goal.returns-then-feed_ahead-clause-front
 returns-then-feed_ahead-clause-front g c = TakesFront-more _ _ _ c.loop-buffer.invariant.2 c.fill.ensures.front

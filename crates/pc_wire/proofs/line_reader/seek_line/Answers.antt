@@ -26,6 +26,7 @@ returns-in_default-last g c =
       limit = TakesOpen-limit _ _ _ _ _ sought.0;
       lines = Fetches-last c.args.feed.now c.seek_feed.new.feed c.args.buffer.now c.seek_feed.new.buffer (g.S.Source.left c.args.source.now) (g.S.Source.left c.seek_feed.new.source) sought some.1;
       front = e.front;
+      beside = e.beside;
       cause = record { later = e.cause.later; failed = tt };
     }
 

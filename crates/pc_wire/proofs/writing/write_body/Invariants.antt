@@ -10,5 +10,6 @@ abbrev pub invariant-loop-line : goal.invariant-loop-line
 invariant-loop-line g l = record {
   written : Appends (g.K.Sink.written l.initial.sink) (g.K.Sink.written l.sink) (flat_map written_content (take l.line-index l.line-items));
   without_feed : list_any has_feed (take l.line-index l.line-items) ≡ false;
+  beside : g.K.Sink.beside l.sink ≡ g.K.Sink.beside l.initial.sink;
   later : g.K.Sink.faults l.initial.sink ≤ g.K.Sink.faults l.sink;
 }
