@@ -1,0 +1,9 @@
+pub mod Answering
+pub mod Desk
+pub mod Lists
+pub mod Receipts
+pub mod Repository
+pub mod Samples
+pub mod States
+pub mod Tasks
+pub mod Turn
