@@ -1,0 +1,68 @@
+//! The desk itself.
+
+ghost use Rattle.std.specs.Prelude.{◌≡◌, ℕ, ◌<◌, ◌↔◌, ◌+◌, ◌≤◌, false, None, [], IfSome};
+ghost use Rattle.pc_spelling.specs.Spelling.{spelled_record};
+ghost use Rattle.pc_house.specs.Base.{BaseOf, BaseOf-prop};
+
+use crate::sessions::Sessions;
+use pc_account::Account;
+use pc_base::Name;
+use pc_disk::Disk;
+use pc_store::Store;
+use std::alloc::Global;
+use std::marker::Model;
+
+/// A user's account on a disk, and the latest session of each client.
+#[derive(Drop)]
+pub struct Desk<D: Disk + Drop> {
+    pub(crate) user: Name,
+    pub(crate) store: Store<Account, D>,
+    pub(crate) drawn: u64,
+    pub(crate) sessions: Sessions,
+    // the record that the bytes of the store's base are
+    pub(crate) ghost base: { BaseOf store.head.base } by { BaseOf-prop store.head.base },
+}
+
+impl<D: Disk + Drop> Model for Desk<D> {
+    ghost use Rattle.pc_house.specs.Base.{base_of};
+    ghost use Rattle.pc_house.specs.Desk.{DeskValue, IsDesk};
+
+    ghost Value = { DeskValue D };
+
+    ghost view = { λ d. record { user = d.user; base = base_of d.base; store = d.store; drawn = d.drawn; sessions = d.sessions } };
+
+    ghost invariant = { λ d. IsDesk (record { user = d.user; base = base_of d.base; store = d.store; drawn = d.drawn; sessions = d.sessions }) };
+}
+
+impl<D: Disk + Drop> Desk<D> {
+    ghost use Rattle.pc_holdings.specs.State.{StandsFor};
+    ghost use Rattle.pc_house.specs.Desk.{history_of};
+
+    /// The desk of a user whose account this store holds. No number of a session was drawn.
+    pub fn new(alloc: Global, user: Name, store: Store<Account, D>) -> Desk<D>
+        requires { store.broken ≡ false }
+        ensures user { result.user ≡ user }
+        ensures store { result.store ≡ store }
+        ensures drawn { result.drawn ≡ 0 }
+        ensures sessions { result.sessions ≡ [] }
+        ensures base { spelled_record result.base ≡ store.head.base }
+        ensures history { StandsFor store.state (history_of result.base store) }
+    {
+        // what stands is known once the state is read
+        let _state = store.state();
+        let _doubt = store.doubt();
+        Desk {
+            user,
+            store,
+            drawn: 0,
+            sessions: Sessions::new(alloc),
+        }
+    }
+
+    /// The store.
+    pub fn store(&self) -> &Store<Account, D>
+        ensures { result.now ≡ self.now.store }
+    {
+        &self.store
+    }
+}
