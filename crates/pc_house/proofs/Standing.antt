@@ -21,7 +21,7 @@ use Rattle.pc_store.specs.Commit.{CommitLeaves}
 use Rattle.pc_house.specs.Base.{BaseOf, IsSavedAs, base_of, base_is, same_base}
 use Rattle.pc_session.specs.Desk.{LAST_SESSION}
 use Rattle.pc_session.specs.declared.access.Latest.{Latest}
-use Rattle.pc_house.specs.Desk.{Fits, IsDesk, IsKept, desk_of, history_of}
+use Rattle.pc_house.specs.Desk.{DeskValue, Fits, IsDesk, IsKept, desk_of, history_of}
 use Rattle.pc_house.proofs.Trails.{▸▸-push}
 
 -- the step of an accepted entry
@@ -141,3 +141,14 @@ module _ {D : Type 0} (user : List ℕ) (old new : StoreState State D Entry) (fo
 -- a desk with other sessions
 pub other_sessions : {D : Type 0} (user : List ℕ) (store : StoreState State D Entry) (found found' : BaseOf store.head.base) (drawn drawn' : ℕ) (sessions sessions' : List (List ℕ × Latest)) → IsDesk (desk_of user store found drawn sessions) → drawn' ≤ LAST_SESSION → IsDesk (desk_of user store found' drawn' sessions')
 other_sessions user store found found' drawn drawn' sessions sessions' is most = record { kept = subst (λ (r : AccountRecord). IsKept r store) (same_base store.head.base store.head.base refl found found') is.kept; drawn = most }
+
+-- a desk whose disk alone has changed
+module _ {D : Type 0} (user : List ℕ) (old new : StoreState State D Entry) (found : BaseOf old.head.base) (found' : BaseOf new.head.base) (drawn : ℕ) (sessions : List (List ℕ × Latest)) (change : D → D) (e : ◌≡◌ {A = StoreState State D Entry} new (record old { disk = change old.disk })) where
+  pub disk_desk : IsDesk (desk_of user old found drawn sessions) → IsDesk (desk_of user new found' drawn sessions)
+  disk_desk is = shut_desk user old new found found' drawn sessions sessions is (e ∙ (λ i. record old { disk = (sym e i).disk }))
+
+  pub disk_view : (desk : DeskValue D) → desk_of user old found drawn sessions ≡ desk → ◌≡◌ {A = DeskValue D} (desk_of user new found' drawn sessions) (record desk { store = record desk.store { disk = change desk.store.disk } })
+  disk_view desk view =
+      let same = same_found user old new found found' drawn sessions sessions (ap (λ (s : StoreState State D Entry). s.head) e) in
+      let changed : ◌≡◌ {A = DeskValue D} (desk_of user new found' drawn sessions) (record (desk_of user old found drawn sessions) { store = record old { disk = change old.disk } }) = λ i. record { user = user; base = same i; store = e i; drawn = drawn; sessions = sessions } in
+      changed ∙ ap (λ (d : DeskValue D). record d { store = record d.store { disk = change d.store.disk } }) view

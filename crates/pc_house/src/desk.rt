@@ -6,8 +6,8 @@ ghost use Rattle.pc_house.specs.Base.{BaseOf, BaseOf-prop};
 
 use crate::sessions::Sessions;
 use pc_account::Account;
-use pc_base::Name;
-use pc_disk::Disk;
+use pc_base::{Machine, Name};
+use pc_disk::{Choice, Disk, MemoryDisk};
 use pc_store::Store;
 use std::alloc::Global;
 use std::marker::Model;
@@ -36,6 +36,8 @@ impl<D: Disk + Drop> Model for Desk<D> {
 
 impl<D: Disk + Drop> Desk<D> {
     ghost use Rattle.pc_holdings.specs.State.{StandsFor};
+    ghost use Rattle.pc_disk.specs.Images.{Images};
+    ghost use Rattle.pc_store.specs.Store.{OpensInDoubt};
     ghost use Rattle.pc_house.specs.Desk.{history_of};
 
     /// The desk of a user whose account this store holds. No number of a session was drawn.
@@ -64,5 +66,50 @@ impl<D: Disk + Drop> Desk<D> {
         ensures { result.now ≡ self.now.store }
     {
         &self.store
+    }
+
+    /// The disk.
+    pub fn into_disk(self) -> D
+        ensures disk { result ≡ self.store.disk }
+
+        // A crash now leaves the history, with the entry in doubt or without it.
+        ensures leaves { D.tells → (left : Images) → D.may_leave result left → OpensInDoubt ⟦<Account as Machine>⟧ self.store.head self.store.trail self.store.doubt left }
+    {
+        let Desk {
+            user: _,
+            store,
+            drawn: _,
+            sessions: _,
+        } = self;
+        store.into_disk()
+    }
+}
+
+impl Desk<MemoryDisk> {
+    ghost use Rattle.pc_disk.specs.Alarm.{IsDue, unarmed};
+
+    /// Lets the k-th device call from now fail. It then changes nothing.
+    pub fn fail_at(&mut self, k: u32)
+        requires { 0 < k }
+        ensures state { self.new ≡ record self.old { store = record self.old.store { disk = record self.old.store.disk { alarm = record self.old.store.disk.alarm { failing = k } } } } }
+        ensures due { self.old.store.disk.alarm ≡ unarmed → (ahead : ℕ) → IsDue self.new.store.disk.alarm ahead ↔ (ahead + 1 ≡ k) }
+    {
+        self.store.fail_at(k);
+    }
+
+    /// Stops the disk at the k-th device call from now, which fails, as each call after it does.
+    pub fn stop_at(&mut self, k: u32, choice: Choice)
+        requires { 0 < k }
+        ensures state { self.new ≡ record self.old { store = record self.old.store { disk = record self.old.store.disk { alarm = record self.old.store.disk.alarm { stopping = k; choice = choice } } } } }
+        ensures due { self.old.store.disk.alarm ≡ unarmed → (ahead : ℕ) → IsDue self.new.store.disk.alarm ahead ↔ (k ≤ ahead + 1) }
+    {
+        self.store.stop_at(k, choice);
+    }
+
+    /// Whether the disk has stopped.
+    pub fn stopped(&self) -> bool
+        ensures { result ≡ self.now.store.disk.alarm.is_stopped }
+    {
+        self.store.stopped()
     }
 }

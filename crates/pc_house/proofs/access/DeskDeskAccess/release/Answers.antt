@@ -1,4 +1,4 @@
-use Rattle.std.proofs.Common.{◌≡◌, refl, ap}
+use Rattle.std.proofs.Common.{refl, ap}
 use Rattle.pc_house.specs.Base.{same_base}
 use Rattle.pc_house.specs.Desk.{history_of}
 use Rattle.pc_house.proofs.Standing.{other_sessions}

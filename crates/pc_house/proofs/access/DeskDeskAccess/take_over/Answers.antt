@@ -1,4 +1,4 @@
-use Rattle.std.proofs.Common.{◌≡◌, ℕ, ◌+◌, ◌≤◌, arith}
+use Rattle.std.proofs.Common.{◌+◌, ◌≤◌, arith}
 use Rattle.pc_session.specs.Desk.{LAST_SESSION}
 use Rattle.pc_house.proofs.Drawing.{stays_same, takes}
 use Rattle.pc_house.proofs.Standing.{other_sessions}

@@ -1,4 +1,4 @@
-use Rattle.std.proofs.Common.{ℕ, List, Option, Some, IsSome, refl, sym, ap, subst, ◌∙◌}
+use Rattle.std.proofs.Common.{ℕ, List, Option, IsSome, refl, sym, ap, subst, ◌∙◌}
 use Rattle.pc_session.specs.declared.access.Latest.{Latest}
 use Rattle.pc_session.specs.Desk.{latest_without}
 use Rattle.pc_house.specs.Sessions.{latest_in}
