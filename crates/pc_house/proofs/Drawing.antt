@@ -1,10 +1,10 @@
 -- What drawing a session number is to the desk.
-use Rattle.std.proofs.Common.{◌≡◌, ℕ, suc, ◌+◌, ◌<◌, ◌≤◌, Bool, true, List, Ok, Err, refl, sym, ap, subst, ◌∙◌, add-one, arith}
+use Rattle.std.proofs.Common.{◌≡◌, ℕ, suc, ◌+◌, ◌<◌, ◌≤◌, Bool, true, List, Ok, refl, ap, subst, ◌∙◌, arith}
 use Rattle.pc_history.specs.declared.entry.Entry.{Entry}
 use Rattle.pc_holdings.specs.State.{State}
 use Rattle.pc_store.specs.Store.{StoreState}
 use Rattle.pc_session.specs.declared.access.Latest.{Latest}
-use Rattle.pc_session.specs.Desk.{Are, Same, Drawn, Takes, LAST_SESSION, latest_with}
+use Rattle.pc_session.specs.Desk.{Are, Same, Takes, LAST_SESSION, latest_with}
 use Rattle.pc_house.specs.Base.{BaseOf, same_base}
 use Rattle.pc_house.specs.Desk.{DeskValue, desk_of, history_of, told_by}
 use Rattle.pc_house.specs.Sessions.{latest_in}

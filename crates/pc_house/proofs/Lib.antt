@@ -1,7 +1,8 @@
-pub mod Trails
-pub mod Rooms
-pub mod Standing
-pub mod Ended
 pub mod Commits
-pub mod Opens
 pub mod Drawing
+pub mod Ended
+pub mod Opens
+pub mod Rooms
+pub mod Singles
+pub mod Standing
+pub mod Trails

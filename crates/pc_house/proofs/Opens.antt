@@ -1,7 +1,6 @@
 -- What opening the store again is to the desk.
-use Rattle.std.proofs.Common.{◌≡◌, ◌⊎◌, ℕ, suc, ◌+◌, ◌<◌, nat_lt, Bool, true, false, true≢false, List, [], ◌∷◌, ◌++◌, length, Option, None, Some, MatchOption, Result, Ok, Err, IfErr, inl, inr, refl, sym, ap, subst, ◌∙◌, if◌then◌else◌, arith}
+use Rattle.std.proofs.Common.{◌≡◌, ◌⊎◌, ℕ, suc, nat_lt, Bool, true, false, List, [], ◌∷◌, ◌++◌, length, Option, None, Some, MatchOption, Ok, Err, inl, inr, refl, ap, subst, ◌∙◌, arith}
 use Rattle.std.specs.Option.{option_and_then}
-use Rattle.std.proofs.lemmas.Bool.{lt-ltb}
 use Rattle.std.proofs.lemmas.List.{length-append}
 use Rattle.pc_base.specs.Stream.{Rose}
 use Rattle.pc_history.specs.declared.entry.Entry.{Entry}
@@ -12,7 +11,7 @@ use Rattle.pc_store.specs.declared.fault.StoreFault.TheVariants as store
 use Rattle.pc_store.specs.Store.{StoreState, SameHistory}
 use Rattle.pc_store.specs.Opening.{IsOutside, OnDevice}
 use Rattle.pc_session.specs.declared.access.Latest.{Latest}
-use Rattle.pc_session.specs.Desk.{Are, Same, Opens, Opened, Resolved, latest_after}
+use Rattle.pc_session.specs.Desk.{Are, Same, Opens, Resolved, latest_after}
 use Rattle.pc_house.specs.Base.{BaseOf}
 use Rattle.pc_house.specs.Desk.{DeskValue, desk_of, history_of, told_by}
 use Rattle.pc_house.specs.Sessions.{dropped_by, latest_but, latest_in, dropped_if}

@@ -1,10 +1,8 @@
 -- The room of a history is the room of its store.
-use Rattle.std.proofs.Common.{◌≡◌, ℕ, suc, ◌+◌, ◌-◌, ◌<◌, ◌≤◌, min, true, false, true≢false, nat_lt, nat_le, ◌&&◌, ◌||◌, not, Bool, List, [], ◌∷◌, length, map, refl, sym, ap, ◌∙◌, arith}
-use Rattle.std.proofs.lemmas.Bool.{lt-ltb, le-leb, ltb-true, leb-true, ltb-false, leb-false, and_parts}
-use Rattle.pc_base.specs.declared.room.Room.{Room}
+use Rattle.std.proofs.Common.{◌≡◌, ℕ, ◌+◌, ◌-◌, ◌≤◌, min, true, false, nat_lt, nat_le, ◌&&◌, ◌||◌, not, length, sym, ap, ◌∙◌, arith}
 use Rattle.pc_history.specs.declared.entry.Entry.{Entry}
 use Rattle.pc_history.specs.Record.{AccountRecord}
-use Rattle.pc_history.specs.History.{History, start, ◌▸▸◌, next}
+use Rattle.pc_history.specs.History.{start, next}
 use Rattle.pc_spelling.specs.Spelling.{spelled_entry}
 use Rattle.pc_holdings.specs.State.{State}
 use Rattle.pc_account.specs.contracts.machine.AccountMachine.TheImpl.{ghosts as machine}

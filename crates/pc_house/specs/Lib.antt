@@ -1,3 +1,5 @@
+pub mod Asking
 pub mod Base
-pub mod Sessions
 pub mod Desk
+pub mod Sessions
+pub mod Single

@@ -2,7 +2,10 @@
 #![tactic(auto)]
 
 mod access;
+mod asking;
 mod desk;
 mod sessions;
+mod single;
 
 pub use desk::Desk;
+pub use single::Single;

@@ -1,6 +1,9 @@
 pub mod Alone
 pub mod Asked
 pub mod Coming
+pub mod Connections
 pub mod Entering
+pub mod Heard
+pub mod Pieces
 pub mod Turns
 pub mod Words

@@ -1,9 +1,12 @@
 pub mod Answering
+pub mod Conversation
 pub mod Desk
+pub mod Desks
 pub mod Lists
 pub mod Receipts
 pub mod Repository
 pub mod Samples
 pub mod States
+pub mod Talking
 pub mod Tasks
 pub mod Turn

@@ -1,4 +1,4 @@
-//! Tests that cross crates: what stores of accounts leave and open, byte for byte.
+//! Tests that cross crates: what stores of accounts leave and open, byte for byte, and what sessions over them say.
 #![tactic(auto)]
 
 #[cfg(test)]
@@ -6,6 +6,12 @@ mod accounts;
 #[cfg(test)]
 mod commits;
 #[cfg(test)]
+mod connections;
+#[cfg(test)]
+mod houses;
+#[cfg(test)]
 mod openings;
+#[cfg(test)]
+mod sessions;
 #[cfg(test)]
 mod stores;

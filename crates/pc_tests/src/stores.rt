@@ -22,7 +22,7 @@ fn commit<M: Machine>(
 }
 
 /// A new store that took these entries.
-fn store_of<M: Machine>(
+pub fn store_of<M: Machine>(
     alloc: Global,
     entries: Vec<M::Entry>,
 ) -> Result<Store<M, MemoryDisk>, Fail> {

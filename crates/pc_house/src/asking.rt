@@ -1,0 +1,31 @@
+//! A request at the desk of a user.
+
+ghost use Rattle.std.specs.Prelude.{◌≡◌, false};
+ghost use Rattle.pc_house.specs.Asking.{AsksDesk, ReachesOnly};
+ghost use Rattle.pc_request.specs.Request.{IsWritable};
+ghost use Rattle.pc_session.specs.States.{reach_of};
+ghost use Rattle.pc_session.specs.Turn.{Heard};
+
+use crate::desk::Desk;
+use pc_disk::Disk;
+use pc_reply::Reply;
+use pc_request::Request;
+use pc_session::{Reach, Session};
+use std::alloc::Global;
+
+impl<D: Disk + Drop> Desk<D> {
+    /// Answers a request of a session: alone, or at this desk where it reaches its user. 500, 501 and 502 come as they
+    /// do of `Session::with_account`.
+    pub fn ask(&mut self, alloc: Global, session: &mut Session, request: &Request) -> Reply
+        requires writable { IsWritable request.now }
+        requires reach { ReachesOnly self.old.user (reach_of session.old.state request.now) }
+        ensures asked { AsksDesk D.tells D.faults (reach_of session.old.state request.now) request.now self.old session.old result self.new session.new }
+        ensures heard { Heard request.now false result session.old session.new }
+        ensures user { self.new.user ≡ self.old.user }
+    {
+        match session.reach(request) {
+            Reach::Nobody => session.alone(alloc, request),
+            Reach::Account(_) => session.with_account(alloc, self, request),
+        }
+    }
+}
