@@ -3,7 +3,7 @@ use Rattle.std.proofs.Common.{◌≡◌, ℕ, ◌≤◌, List, ◌∷◌, ◌++�
 use Rattle.pc_wire.specs.Words.{words_of}
 use Rattle.pc_request.specs.Argument.{AreSpelled}
 use Rattle.pc_request.specs.Fault.{kinds_of, fault_of_arguments}
-use Rattle.pc_request.specs.Operation.{word_of, operations, operation_named}
+use Rattle.pc_request.specs.Operation.{word_of, operations}
 use Rattle.pc_request.specs.Request.{call_of}
 use Rattle.pc_request.specs.declared.operation.Operation.{Operation}
 use Rattle.pc_request.specs.declared.operation.Operation.TheVariants.{CreateMailbox}

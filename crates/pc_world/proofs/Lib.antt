@@ -13,3 +13,4 @@ pub mod Playing
 mod Samples
 pub mod Stopped
 pub mod Turns
+pub mod Users

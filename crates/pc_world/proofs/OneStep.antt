@@ -63,6 +63,6 @@ of_both (Some x) P Q R both p q = both x p q
 pub step_once : (old : List Account) (event : Event) (printed shown : List (List ℕ)) (new other : List Account)
     → Step old event printed new → Step old event shown other → (printed ≡ shown) × (new ≡ other)
 step_once old Silent printed shown new other step also = (cc (step.0, also.0), cc (step.1, also.1))
-step_once old (User name password) printed shown new other step also = (cc (step.1, also.1), cc (step.2, also.2))
+step_once old (User name password) printed shown new other step also = (step.0 ∙ sym also.0, step.1 ∙ sym also.1)
 step_once old (Ask user asked) printed shown new other step also =
     of_both (entries_of old user) _ _ ((printed ≡ shown) × (new ≡ other)) (λ entries answers same. (answers.0 ∙ sym same.0, answers.1 ∙ sym same.1)) step also

@@ -73,7 +73,7 @@ plays_user : Plays [] (codes "user ann sesame" ∷ []) (codes "user ann: 200 Ok"
 plays_user = record {
   event = User (codes "ann") (codes "sesame");
   is_event = (lit≤ tt, refl, (refl, refl, refl));
-  step = (refl, refl, refl);
+  step = (refl, refl);
 }
 
 plays_mailbox : Plays enrolled_world (codes "ask ann CREATE-MAILBOX work" ∷ []) (codes "ask ann: 200 Ok" ∷ []) made_world
@@ -202,3 +202,26 @@ refused_at_two = record {
   text_is = refl;
   stops = λ within. stops_at_bob (codes "ask ann HELP" ∷ []);
 }
+
+-- two users, each with an account of its own; and one who is there already
+abbrev bob_account : Account
+bob_account = record { user = codes "bob"; entries = enrolled (codes "bob") (codes "open") }
+
+plays_bob : Step enrolled_world (User (codes "bob") (codes "open")) (codes "user bob: 200 Ok" ∷ []) (enrolled_world ++ bob_account ∷ [])
+plays_bob = (refl, refl)
+
+plays_ann_again : Step enrolled_world (User (codes "ann") (codes "other")) (codes "user ann: 415 Address taken" ∷ []) enrolled_world
+unfolding head_of
+plays_ann_again = (refl, refl)
+
+bob_makes : Step (enrolled_world ++ bob_account ∷ []) (Ask (codes "bob") (Read (request.CreateMailbox (codes "work")))) (codes "ask bob: 200 Ok" ∷ []) (enrolled_world ++ record bob_account { entries = bob_account.entries ++ MakeMailbox (codes "work") ∷ [] } ∷ [])
+unfolding reply_to_request
+bob_makes = (refl, refl)
+
+-- the 33rd
+plays_too_many : Step (replicate 32 bob_account) (User (codes "ann") (codes "sesame")) (codes "user ann: 418 Limit reached users" ∷ []) (replicate 32 bob_account)
+unfolding head_of
+plays_too_many = (refl, refl)
+
+plays_the_last : Step (replicate 31 bob_account) (User (codes "ann") (codes "sesame")) (codes "user ann: 200 Ok" ∷ []) (replicate 31 bob_account ++ enrolled_world)
+plays_the_last = (refl, refl)

@@ -8,4 +8,3 @@ pub mod Replay
 pub mod Rows
 pub mod Runs
 pub mod Steps
-pub mod View

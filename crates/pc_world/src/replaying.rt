@@ -70,7 +70,7 @@ fn play_all<S: Source, K: Sink>(alloc: Global, input: &mut S, output: &mut K) ->
     let Ok(mut lines) = LineReader::new(alloc, 1000) else {
         return ReplayEnd::Memory;
     };
-    let mut world = World::new();
+    let mut world = World::new(alloc);
     let mut text = Vec::new(alloc);
     play_lines(alloc, input, output, &mut lines, &mut world, &mut text)
 }

@@ -21,9 +21,9 @@ pub(crate) trait Transcript {
     /// What was there is in front.
     ghost keeps: { Self → Self → Type 0 };
 
-    /// Prints that a user is enrolled.
-    fn print_user(&mut self, alloc: Global, name: &Name) -> Result<(), Memory>
-        ensures ok { OnOk result (adds self.old (printed_user name.now) self.new) }
+    /// Prints whether a user is enrolled, by this head.
+    fn print_user(&mut self, alloc: Global, name: &Name, head: &[u8]) -> Result<(), Memory>
+        ensures ok { OnOk result (adds self.old (printed_user name.now head.now) self.new) }
         ensures err { OnErr result (keeps self.old self.new) };
 
     /// Prints a reply behind the heading of its user: its head, and a line for each mailbox of its list.
@@ -53,9 +53,9 @@ impl Transcript for Printed {
 
     ghost unchanged = { λ _. tt };
 
-    fn print_user(&mut self, alloc: Global, name: &Name) -> Result<(), Memory> {
+    fn print_user(&mut self, alloc: Global, name: &Name, head: &[u8]) -> Result<(), Memory> {
         let mut line = Vec::new(alloc);
-        append_user(&mut line, name)?;
+        append_user(&mut line, name, head)?;
         push_line(self, alloc, &line)
     }
 
@@ -95,8 +95,8 @@ impl Transcript for Vec<u8> {
 
     ghost unchanged = { λ text. take-length text.items };
 
-    fn print_user(&mut self, _alloc: Global, name: &Name) -> Result<(), Memory> {
-        append_user(self, name)?;
+    fn print_user(&mut self, _alloc: Global, name: &Name, head: &[u8]) -> Result<(), Memory> {
+        append_user(self, name, head)?;
         self.push(b'\n')?;
         Ok(())
     }
@@ -135,13 +135,14 @@ fn print_row(text: &mut Vec<u8>, row: &MailboxRow) -> Result<(), Memory>
     Ok(())
 }
 
-/// Puts the line of a new user behind the text.
-fn append_user(text: &mut Vec<u8>, name: &Name) -> Result<(), Memory>
-    ensures { Adds text.old.items text.new.items (codes "user " ++ name.now ++ codes ": 200 Ok") result }
+/// Puts the line of a user behind the text, with the head that tells whether it was enrolled.
+fn append_user(text: &mut Vec<u8>, name: &Name, head: &[u8]) -> Result<(), Memory>
+    ensures { Adds text.old.items text.new.items (codes "user " ++ name.now ++ codes ": " ++ head.now) result }
 {
     text.extend_from_slice(b"user ")?;
     text.extend_from_slice(name.bytes())?;
-    text.extend_from_slice(b": 200 Ok")?;
+    text.extend_from_slice(b": ")?;
+    text.extend_from_slice(head)?;
     Ok(())
 }
 

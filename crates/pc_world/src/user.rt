@@ -4,6 +4,7 @@ ghost use Rattle.std.specs.Prelude.{◌≡◌, ◌++◌, [], ◌∷◌, IsTrue, 
 ghost use Rattle.pc_history.specs.Allowed.{is_mailbox};
 ghost use Rattle.pc_history.specs.History.{known};
 ghost use Rattle.pc_history.specs.Known.{Known};
+ghost use Rattle.pc_history.specs.Table.{same};
 ghost use Rattle.pc_account.specs.Answers.{Tells, answered};
 ghost use Rattle.pc_account.specs.Plan.{IsWish, planned};
 ghost use Rattle.pc_holdings.specs.State.{StandsFor, may_follow, said, step};
@@ -68,6 +69,14 @@ impl User {
         ensures { result.now ≡ self.now.user }
     {
         &self.name
+    }
+
+    /// Whether the user has this name.
+    #[inline]
+    pub(crate) fn is_named(&self, name: &[u8]) -> bool
+        ensures { result ≡ same self.now.user name.now }
+    {
+        self.name.bytes() == name
     }
 
     /// What is in front of each reply to the user.

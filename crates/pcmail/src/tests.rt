@@ -139,12 +139,46 @@ fn names_of_mailboxes_are_limited(rt: HostRuntime) -> Result<(), Fail> {
 }
 
 #[test]
+fn each_user_has_mailboxes_of_its_own(rt: HostRuntime) -> Result<(), Fail> {
+    let script: &[u8] = b"user ann sesame\nuser bob open\nuser ann other\n\
+ask bob CREATE-MAILBOX work\nask  ann LIST-MAILBOXES\nask ann CREATE-MAILBOX play\n\
+ask bob LIST-MAILBOXES\nask ann LIST-MAILBOXES\nask eve HELP\n";
+    let transcript: &[u8] = b"user ann: 200 Ok\nuser bob: 200 Ok\nuser ann: 415 Address taken\n\
+ask bob: 200 Ok\nask ann: 201 List follows\n  inbox 0 0\nask ann: 200 Ok\n\
+ask bob: 201 List follows\n  inbox 0 0\n  work 0 0\n\
+ask ann: 201 List follows\n  inbox 0 0\n  play 0 0\n";
+    let status = Status::InputRefused { line: 9 };
+    expect(&rt, rt.alloc(), script, status, transcript)
+}
+
+#[test]
+fn users_are_limited(rt: HostRuntime) -> Result<(), Fail> {
+    let mut script = Vec::new(rt.alloc());
+    let mut transcript = Vec::new(rt.alloc());
+    for number in 1u32..34 {
+        let line = format!(in rt.alloc(); "user u{number} sesame\n")?;
+        script.extend_from_slice(line.as_bytes())?;
+        let head = if number < 33 {
+            "200 Ok"
+        } else {
+            "418 Limit reached users"
+        };
+        let line = format!(in rt.alloc(); "user u{number}: {head}\n")?;
+        transcript.extend_from_slice(line.as_bytes())?;
+    }
+    script.extend_from_slice(b"user u32 sesame\nask u32 CREATE-MAILBOX inbox\n".as_slice())?;
+    transcript.extend_from_slice(
+        b"user u32: 415 Address taken\nask u32: 410 Mailbox exists\n".as_slice(),
+    )?;
+    expect(&rt, rt.alloc(), &script, Status::Ok, &transcript)
+}
+
+#[test]
 fn scripts_are_refused_at_their_line(rt: HostRuntime) -> Result<(), Fail> {
     let ann: &[u8] = b"user ann: 200 Ok\n";
-    let rows: [(&[u8], u64, &[u8]); 10] = [
+    let rows: [(&[u8], u64, &[u8]); 9] = [
         (b"ask ann HELP\n", 1, b""),
         (b"user ann sesame\nask bob HELP\n", 2, ann),
-        (b"user ann sesame\nuser bob sesame\nask ann HELP\n", 2, ann),
         (b"user ann sesame\n\n# three\nwhat", 4, ann),
         (b"user ann sesame\n   \n", 2, ann),
         (b"user ann sesame\n # x\n", 2, ann),
