@@ -1,5 +1,5 @@
 -- The names of the office, and what is counted over them.
-use Rattle.std.proofs.Common.{◌≡◌, ℕ, suc, ◌+◌, Bool, true, false, cond, ◌&&◌, ◌||◌, nat_lt, List, [], ◌∷◌, ◌++◌, filter, Option, None, Some, is_some, unwrap_or, option_map, MatchOption, refl, sym, ◌∙◌, ap, subst, inl, inr, arith, append-nil, le-ltb, true≢false}
+use Rattle.std.proofs.Common.{◌≡◌, ℕ, suc, ◌+◌, Bool, true, false, cond, ◌&&◌, ◌||◌, ◌⊎◌, nat_lt, List, [], ◌∷◌, ◌++◌, filter, Option, None, Some, is_some, unwrap_or, option_map, MatchOption, refl, sym, ◌∙◌, ap, subst, inl, inr, arith, append-nil, le-ltb, true≢false}
 use Rattle.std.specs.Prelude.{⊤}
 use Rattle.std.specs.List.{AllByRecursion as Every, list_any, cons_option}
 use Rattle.std.specs.Map.{lookup, keys_of}
@@ -21,13 +21,13 @@ use Rattle.pc_office_history.specs.declared.entry.OfficeEntry.TheVariants.{AddUs
 use Rattle.pc_office_history.specs.Record.{OfficeRecord, target_of, mail_at}
 use Rattle.pc_office_history.specs.Effect.{targets_of}
 use Rattle.pc_office_history.specs.Known.{Known, said_by, after_entry}
-use Rattle.pc_office_history.specs.History.{History, ◌▹◌, ◌▹▹◌, known}
+use Rattle.pc_office_history.specs.History.{History, ◌▹◌, ◌▹▹◌, new_office, known}
 use Rattle.pc_office_history.specs.Allowed.{is_allowed, is_user}
 use Rattle.pc_office_history.specs.Answers.{is_for, addresses_of}
 use Rattle.pc_office_history.specs.Limits.{are_too_many, board_weight, would_pass}
 use Rattle.pc_office_history.specs.Step.{record_of}
 use Rattle.pc_office_history.specs.Legal.{IsWellFormed, IsLegal}
-use Rattle.pc_office_history.specs.Laws.{AreApart, IsReadOff}
+use Rattle.pc_office_history.specs.Laws.{AreApart, HaveOwnNames, IsReadOff}
 use Rattle.pc_office_history.proofs.Mails.{targets-every}
 use Rattle.pc_office_history.proofs.Agreement.{is_free-parts, accept-parts}
 use Rattle.pc_office_history.proofs.FormedAfter.{owner-found, is_among-push}
@@ -79,6 +79,27 @@ own-stays h (e ∷ es) legal user one =
     let step = own-step (known h) e (legal-front (h ▹ e) es legal).1 user one in
     let rest = own-stays (h ▹ e) es legal user step.0 in
     (rest.0, rest.1 ∙ step.1)
+
+among-push : (name new : List ℕ) (names : List (List ℕ)) → is_among name (names ++ new ∷ []) ≡ true → (is_among name names ≡ true) ⊎ (same name new ≡ true)
+among-push name new [] h = elim (same name new) as (λ b. (b || false) ≡ true → (false ≡ true) ⊎ (b ≡ true)) [ true ↦ λ g. inr refl | false ↦ λ g. absurd (true≢false (sym g)) ] h
+among-push name new (other ∷ names) h = elim (same name other) as (λ b. (b || is_among name (names ++ new ∷ [])) ≡ true → ((b || is_among name names) ≡ true) ⊎ (same name new ≡ true)) [ true ↦ λ g. inl refl | false ↦ λ g. among-push name new names g ] h
+
+own-names-step : (k : Known) (e : OfficeEntry) → is_allowed k e ≡ true → HaveOwnNames k → HaveOwnNames (after_entry k e)
+own-names-step k (AddUser made) h own user one = elim (among-push user made k.users one) [
+  | inl before ↦ (own-step k (AddUser made) h user before).1 ∙ own user before
+  | inr new ↦ let e = same-true user made new in rw e (ap (λ b. cond b (Some (record { user = made; mailbox = inbox })) (k.owner made)) (same-refl made))
+]
+own-names-step k (AddBoard board) h own user one = own user one
+own-names-step k (TakeAddress address owner mailbox) h own user one = (own-step k (TakeAddress address owner mailbox) h user one).1 ∙ own user one
+own-names-step k (DropAddress address) h own user one = (own-step k (DropAddress address) h user one).1 ∙ own user one
+own-names-step k _ h own user one = own user one
+
+own-names : (h : History) (es : List OfficeEntry) → IsLegal (h ▹▹ es) → HaveOwnNames (known h) → HaveOwnNames (known (h ▹▹ es))
+own-names h [] legal own = own
+own-names h (e ∷ es) legal own = own-names (h ▹ e) es legal (own-names-step (known h) e (legal-front (h ▹ e) es legal).1 own)
+
+pub own-names-kept : HaveOwnNames (known new_office) × ((h : History) (es : List OfficeEntry) → IsLegal (h ▹▹ es) → HaveOwnNames (known h) → HaveOwnNames (known (h ▹▹ es)))
+own-names-kept = (λ user h. absurd (true≢false (sym h)), own-names)
 
 -- ---- the limit of what waits
 

@@ -23,10 +23,9 @@ use Rattle.pc_office_history.specs.Effect.{noted_after, accepted_after, targets_
 use Rattle.pc_office_history.specs.Known.{Known, said_by, is_past}
 use Rattle.pc_office_history.specs.History.{History, start, ◌▹◌, ◌▹▹◌, known, mails, mail_numbered}
 use Rattle.pc_office_history.specs.Allowed.{is_allowed, is_user}
-use Rattle.pc_office_history.specs.Answers.{waiting_past}
 use Rattle.pc_office_history.specs.Step.{record_of}
 use Rattle.pc_office_history.specs.Legal.{IsKept, IsWellFormed, IsLegal}
-use Rattle.pc_office_history.specs.Laws.{IsInOrder, AreToldInOrder, mail_to, accept_count}
+use Rattle.pc_office_history.specs.Laws.{IsInOrder, IsToldFirst, AreToldInOrder, mail_to, accept_count}
 use Rattle.pc_office_history.proofs.Mails.{mails_for-append, past-all, Every-mails_for}
 use Rattle.pc_office_history.proofs.Agreement.{pulled-parts, absent, noted-upto, waiting-past}
 use Rattle.pc_office_history.proofs.Histories.{Stands-legal, legal-front}
@@ -174,15 +173,16 @@ module _ (h : History) (names message : List (List ℕ)) where
       (Every-weaker (λ (mail : Mail). ((known h).noted user < mail.number) × (mail.number ≤ (known h).accepted)) (λ (mail : Mail). (known h).noted user < mail.number) (λ mail g. g.0) ((known h).waiting user) order.past)
       (mail-numbers (λ number. (known h).noted user < number) user (sent_mail ∷ []) (omega (arith, order.noted), tt)))
 
-  pub accepted-waits : (es : List OfficeEntry) → IsLegal (h ▹ Accept names message ▹▹ es) → (user : List ℕ) (target : Target) → target_of user (targets_of (known h).owner names) ≡ Some target → (known (h ▹ Accept names message ▹▹ es)).noted user ≤ (known h).accepted → Contains ((known (h ▹ Accept names message ▹▹ es)).waiting user) (mail_to h message target) × (slice_get (waiting_past (known (h ▹ Accept names message ▹▹ es)) user (known h).accepted) 0 ≡ Some (mail_to h message target))
+  pub accepted-waits : (es : List OfficeEntry) → IsLegal (h ▹ Accept names message ▹▹ es) → (user : List ℕ) (target : Target) → target_of user (targets_of (known h).owner names) ≡ Some target → (known (h ▹ Accept names message ▹▹ es)).noted user ≤ (known h).accepted → IsToldFirst (known (h ▹ Accept names message ▹▹ es)) user (known h).accepted (mail_to h message target)
   accepted-waits es legal user target goes noted =
       let mail = mail_to h message target in
       let legal_there = (legal-front (h ▹ Accept names message) es legal).0 in
       let there : IsIn mail ((known (h ▹ Accept names message)).waiting user) = subst (IsIn mail) (sym (mail-added legal_there user ∙ ap (λ ms. (known h).waiting user ++ ms) (mails_for-one user sent_mail target goes))) (in-last mail ((known h).waiting user)) in
-      let waits = still-waits (h ▹ Accept names message) es legal user mail there (omega (arith, noted)) in (
-        Contains-in mail ((known (h ▹ Accept names message ▹▹ es)).waiting user) waits,
-        first-past (known h).accepted mail ((known (h ▹ Accept names message ▹▹ es)).waiting user) refl (in-order (h ▹ Accept names message ▹▹ es) legal user).rising waits,
-      )
+      let waits = still-waits (h ▹ Accept names message) es legal user mail there (omega (arith, noted)) in
+      record {
+        waits = Contains-in mail ((known (h ▹ Accept names message ▹▹ es)).waiting user) waits;
+        first = first-past (known h).accepted mail ((known (h ▹ Accept names message ▹▹ es)).waiting user) refl (in-order (h ▹ Accept names message ▹▹ es) legal user).rising waits;
+      }
 
 -- ---- what other entries leave
 

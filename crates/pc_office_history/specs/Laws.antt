@@ -7,6 +7,7 @@ use Rattle.pc_base.specs.declared.refusal.LimitWord.TheVariants as limit
 use Rattle.pc_message.specs.declared.lists.Mail.{Mail}
 use Rattle.pc_message.specs.Message.{weight_of}
 use Rattle.pc_history.specs.declared.limits.TheConstants.{MOST_LETTERS, LAST_MAIL}
+use Rattle.pc_history.specs.Allowed.{inbox}
 use Rattle.pc_history.specs.Table.{same, is_among, numbers, total}
 use Rattle.pc_history.specs.Legal.{Ordered}
 use Rattle.pc_office_history.specs.declared.limits.TheConstants.{MOST_USERS, MOST_WAITING, MOST_WAITING_WEIGHT}
@@ -17,7 +18,7 @@ use Rattle.pc_office_history.specs.declared.entry.OfficeEntry.TheVariants.{Accep
 use Rattle.pc_office_history.specs.Record.{OfficeRecord, target_of, mails_for}
 use Rattle.pc_office_history.specs.Effect.{noted_after, accepted_after, targets_of, new_mails}
 use Rattle.pc_office_history.specs.Known.{Known, is_past, said_by, after_entry}
-use Rattle.pc_office_history.specs.History.{History, start, ◌▹◌, ◌▹▹◌, known, next, mails, mail_numbered}
+use Rattle.pc_office_history.specs.History.{History, start, ◌▹◌, ◌▹▹◌, new_office, known, next, mails, mail_numbered}
 use Rattle.pc_office_history.specs.Allowed.{is_allowed, is_user, is_board, is_address}
 use Rattle.pc_office_history.specs.Answers.{addresses_of, waiting_past, board_of}
 use Rattle.pc_office_history.specs.Limits.{are_too_many, board_weight, would_pass, limit_passed, IsWithin, limits_of_bases}
@@ -100,9 +101,17 @@ pub record AreApart (k : Known) : Type 0 where
 abbrev pub NamesAreApart : Type 0
 NamesAreApart = (h : History) → IsLegal h → AreApart (known h)
 
--- the name of a user stays for whom it is
+-- a user stays one, and its name stays for whom it is
 abbrev pub OwnNameStays : Type 0
 OwnNameStays = (h : History) (entries : List OfficeEntry) → IsLegal (h ▹▹ entries) → (user : List ℕ) → is_user (known h) user ≡ true → (is_user (known (h ▹▹ entries)) user ≡ true) × ((known (h ▹▹ entries)).owner user ≡ (known h).owner user)
+
+-- the name of each user is its own address, for its inbox
+abbrev pub HaveOwnNames : Known → Type 0
+HaveOwnNames k = (user : List ℕ) → is_user k user ≡ true → k.owner user ≡ Some (record { user = user; mailbox = inbox })
+
+-- so it is in a new office, and no entry changes it
+abbrev pub OwnNamesAreKept : Type 0
+OwnNamesAreKept = HaveOwnNames (known new_office) × ((h : History) (entries : List OfficeEntry) → IsLegal (h ▹▹ entries) → HaveOwnNames (known h) → HaveOwnNames (known (h ▹▹ entries)))
 
 -- ---- mails
 
@@ -145,10 +154,14 @@ NumbersNeverFall = (h : History) (entries : List OfficeEntry) → IsLegal (h ▹
 abbrev pub mail_to : History → List (List ℕ) → Target → Mail
 mail_to h message target = record { number = suc (known h).accepted; mailbox = target.mailbox; message = message }
 
--- a mail waits for each of its users until the number that is noted of the user reaches it; and one who asks
--- for what is past all mails before it is told it first
+-- a mail waits for a user, and is the first one told to a user that asks for what is past a number
+pub record IsToldFirst (k : Known) (user : List ℕ) (number : ℕ) (mail : Mail) : Type 0 where
+  pub waits : Contains (k.waiting user) mail
+  pub first : slice_get (waiting_past k user number) 0 ≡ Some mail
+
+-- a mail waits for each of its users until the number that is noted of the user reaches it, and is told first past all mails before it
 abbrev pub AcceptedMailWaits : Type 0
-AcceptedMailWaits = (h : History) (names message : List (List ℕ)) (entries : List OfficeEntry) → IsLegal (h ▹ Accept names message ▹▹ entries) → (user : List ℕ) (target : Target) → target_of user (targets_of (known h).owner names) ≡ Some target → (known (h ▹ Accept names message ▹▹ entries)).noted user ≤ (known h).accepted → Contains ((known (h ▹ Accept names message ▹▹ entries)).waiting user) (mail_to h message target) × (slice_get (waiting_past (known (h ▹ Accept names message ▹▹ entries)) user (known h).accepted) 0 ≡ Some (mail_to h message target))
+AcceptedMailWaits = (h : History) (names message : List (List ℕ)) (entries : List OfficeEntry) → IsLegal (h ▹ Accept names message ▹▹ entries) → (user : List ℕ) (target : Target) → target_of user (targets_of (known h).owner names) ≡ Some target → (known (h ▹ Accept names message ▹▹ entries)).noted user ≤ (known h).accepted → IsToldFirst (known (h ▹ Accept names message ▹▹ entries)) user (known h).accepted (mail_to h message target)
 
 -- what waits for a user after a mail is what waited and the mail, if it is for the user
 abbrev pub MailIsAdded : Type 0
@@ -162,7 +175,7 @@ PulledIsTaken = (h : History) (by : List ℕ) (number : ℕ) → IsLegal h → (
 abbrev pub WaitingStays : Type 0
 WaitingStays = (h : History) (e : OfficeEntry) → IsLegal h → accepted_after e 0 ≡ 0 → (user : List ℕ) → noted_after e user ((known h).noted user) ≡ (known h).noted user → (known (h ▹ e)).waiting user ≡ (known h).waiting user
 
--- the mails that a user is told at once: some 64, by rising number, past what was asked, and accepted
+-- the mails that a user is told at once: by rising number, past what was asked for, accepted, and at most 64
 pub record AreToldInOrder (k : Known) (user : List ℕ) (number : ℕ) : Type 0 where
   pub rising : Ordered (λ (mail later : Mail). mail.number < later.number) (waiting_past k user number)
   pub past : AllByRecursion (λ (mail : Mail). (number < mail.number) × (k.noted user < mail.number) × (mail.number ≤ k.accepted)) (waiting_past k user number)

@@ -102,6 +102,7 @@ one_pulled = new_office ▹ AddUser ann ▹ Accept (ann ∷ []) note ▹ Pulled 
 -- what was pulled waits no more, and isn't kept
 abbrev pub OnePulled : Type 0
 OnePulled = (next one_pulled ≡ 4)
+    × (next (new_office ▹ AddUser ann) ≡ 2)
     × (waits (new_office ▹ AddUser ann ▹ Accept (ann ∷ []) note) ann 0 ≡ mail 1 box note ∷ [])
     × (waits one_pulled ann 0 ≡ [])
     × ((known one_pulled).noted ann ≡ 1)
@@ -171,7 +172,8 @@ abbrev pub taken_in_turn : History
 taken_in_turn = enrolled ▹ TakeAddress (codes "a.one") ann box ▹ TakeAddress (codes "a.two") ann box ▹ TakeAddress ann_work ann work ▹ DropAddress (codes "a.one") ▹ TakeAddress (codes "a.one") ann box
 
 abbrev pub InOrderOfTaking : Type 0
-InOrderOfTaking = (addresses_of (known taken_in_turn) ann box ≡ ann ∷ codes "a.two" ∷ codes "a.one" ∷ [])
+InOrderOfTaking = (addresses_of (known (enrolled ▹ TakeAddress (codes "a.two") ann box)) ann box ≡ ann ∷ codes "a.two" ∷ [])
+    × (addresses_of (known taken_in_turn) ann box ≡ ann ∷ codes "a.two" ∷ codes "a.one" ∷ [])
     × (addresses_of (known taken_in_turn) ann work ≡ ann_work ∷ [])
     × (addresses_of (known taken_in_turn) bob box ≡ bob ∷ [])
     × (addresses_of (known taken_in_turn) bob work ≡ [])

@@ -1,6 +1,6 @@
 //! What holds of every legal history. Each law is the contract of a function that does nothing.
 
-ghost use Rattle.pc_office_history.specs.Laws.{RecordAnswersAsHistory, RecordInPlaceOfHistory, RecordIsCanonical, LimitsHold, LimitIsPassed, StepIsOneEntryMore, StepIsFormedAgain, RecordIsReadOff, RecordIsBounded, NamesAreApart, OwnNameStays, TargetIsOfFirstName, MailsAreNumbered, MailHasItsNumber, WaitingIsPastNoted, WaitingIsInOrder, NumbersNeverFall, AcceptedMailWaits, MailIsAdded, PulledIsTaken, WaitingStays, MailsAreToldInOrder, WaitingIsOfTargets, BoardsOnlyGrow, WeightIsAdded};
+ghost use Rattle.pc_office_history.specs.Laws.{RecordAnswersAsHistory, RecordInPlaceOfHistory, RecordIsCanonical, LimitsHold, LimitIsPassed, StepIsOneEntryMore, StepIsFormedAgain, RecordIsReadOff, RecordIsBounded, NamesAreApart, OwnNameStays, OwnNamesAreKept, TargetIsOfFirstName, MailsAreNumbered, MailHasItsNumber, WaitingIsPastNoted, WaitingIsInOrder, NumbersNeverFall, AcceptedMailWaits, MailIsAdded, PulledIsTaken, WaitingStays, MailsAreToldInOrder, WaitingIsOfTargets, BoardsOnlyGrow, WeightIsAdded};
 
 /// The record of a history answers every question as the history does.
 pub fn record_answers_as_history()
@@ -55,6 +55,11 @@ pub fn names_are_apart()
 /// No user's own name is taken away.
 pub fn own_name_stays()
     ensures { OwnNameStays }
+{}
+
+/// Where each user's name is its own address, it stays so.
+pub fn own_names_are_kept()
+    ensures { OwnNamesAreKept }
 {}
 
 /// A mail goes to each of its users once, as the first of its names says.
