@@ -178,11 +178,13 @@ found-self : {X : Type 0} (found : Option X) (d : X) → MatchOption found ⊤ (
 found-self None d = tt
 found-self (Some x) d = refl
 
+boards-found : (r : OfficeRecord) → IsWellFormed r → Every (λ (board : List ℕ × List (List (List ℕ))). (said_by r).messages board.0 ≡ board.1) r.boards
+boards-found r formed = Every-from_lookups (λ name (messages : List (List (List ℕ))). unwrap_or (lookup (same name) r.boards) [] ≡ messages) r.boards (distinct-second (keys_of r.users) (keys_of r.boards) formed.user_names) (λ name. found-self (lookup (same name) r.boards) [])
+
 boards-counted : (r : OfficeRecord) → IsWellFormed r → board_weight (said_by r) ≡ total (λ board. total weight_of board.1) r.boards
 boards-counted r formed =
-    let found = Every-from_lookups (λ name (messages : List (List (List ℕ))). unwrap_or (lookup (same name) r.boards) [] ≡ messages) r.boards (distinct-second (keys_of r.users) (keys_of r.boards) formed.user_names) (λ name. found-self (lookup (same name) r.boards) []) in
     total-keys (λ name. total weight_of (unwrap_or (lookup (same name) r.boards) [])) (total weight_of) r.boards
-    (Every-weaker (λ (board : List ℕ × List (List (List ℕ))). unwrap_or (lookup (same board.0) r.boards) [] ≡ board.1) (λ (board : List ℕ × List (List (List ℕ))). total weight_of (unwrap_or (lookup (same board.0) r.boards) []) ≡ total weight_of board.1) (λ board e. ap (total weight_of) e) r.boards found)
+    (Every-weaker (λ (board : List ℕ × List (List (List ℕ))). (said_by r).messages board.0 ≡ board.1) (λ (board : List ℕ × List (List (List ℕ))). total weight_of (unwrap_or (lookup (same board.0) r.boards) []) ≡ total weight_of board.1) (λ board e. ap (total weight_of) e) r.boards (boards-found r formed))
 
 keys-filter : {X : Type 0} (p : List ℕ → Bool) (q : X → Bool) (table : List (List ℕ × X)) → Every (λ (entry : List ℕ × X). p entry.0 ≡ q entry.1) table → filter p (keys_of table) ≡ keys_of (filter (λ entry. q entry.1) table)
 keys-filter p q [] h = refl
@@ -203,8 +205,18 @@ addresses-read r formed user mailbox =
     let q = λ (target : Target). same user target.user && same mailbox target.mailbox in
     keys-filter (is_for (said_by r) user mailbox) q r.addresses (Every-from_lookups (λ name target. is_for (said_by r) user mailbox name ≡ q target) r.addresses (distinct-first (keys_of r.addresses) (keys_of r.boards) formed.address_names) (λ name. found-test q (lookup (same name) r.addresses)))
 
+found-some : {X : Type 0} (found : Option X) → MatchOption found ⊤ (λ x. found ≡ Some x)
+found-some None = tt
+found-some (Some x) = refl
+
 pub read-off : (r : OfficeRecord) → IsWellFormed r → IsReadOff r
-read-off r formed = record { weight = boards-counted r formed; addresses = addresses-read r formed }
+read-off r formed = record {
+  noted = Every-from_lookups (λ name (number : ℕ). unwrap_or (lookup (same name) r.users) 0 ≡ number) r.users (distinct-first (keys_of r.users) (keys_of r.boards) formed.user_names) (λ name. found-self (lookup (same name) r.users) 0);
+  owners = Every-from_lookups (λ name (target : Target). lookup (same name) r.addresses ≡ Some target) r.addresses (distinct-first (keys_of r.addresses) (keys_of r.boards) formed.address_names) (λ name. found-some (lookup (same name) r.addresses));
+  messages = boards-found r formed;
+  weight = boards-counted r formed;
+  addresses = addresses-read r formed;
+}
 
 -- ---- what a message adds to the boards
 

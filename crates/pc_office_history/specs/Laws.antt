@@ -82,8 +82,11 @@ pub record IsBounded (r : OfficeRecord) : Type 0 where
 abbrev pub RecordIsBounded : Type 0
 RecordIsBounded = (r : OfficeRecord) → IsCanonical r → IsBounded r
 
--- what is answered from all boards and all addresses is read off the tables
+-- what is said of each name is what stands in its table, and so is what is said of all of them
 pub record IsReadOff (r : OfficeRecord) : Type 0 where
+  pub noted : AllByRecursion (λ (user : List ℕ × ℕ). (said_by r).noted user.0 ≡ user.1) r.users
+  pub owners : AllByRecursion (λ (address : List ℕ × Target). (said_by r).owner address.0 ≡ Some address.1) r.addresses
+  pub messages : AllByRecursion (λ (board : List ℕ × List (List (List ℕ))). (said_by r).messages board.0 ≡ board.1) r.boards
   pub weight : board_weight (said_by r) ≡ total (λ board. total weight_of board.1) r.boards
   pub addresses : (user mailbox : List ℕ) → addresses_of (said_by r) user mailbox ≡ keys_of (filter (λ address. same user address.1.user && same mailbox address.1.mailbox) r.addresses)
 

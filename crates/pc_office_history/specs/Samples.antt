@@ -10,7 +10,7 @@ use Rattle.pc_office_history.specs.declared.kept.KeptMail.{KeptMail}
 use Rattle.pc_office_history.specs.declared.entry.OfficeEntry.{OfficeEntry}
 use Rattle.pc_office_history.specs.declared.entry.OfficeEntry.TheVariants.{AddUser, AddBoard, TakeAddress, DropAddress, Accept, Pulled}
 use Rattle.pc_office_history.specs.Record.{OfficeRecord, empty_record}
-use Rattle.pc_office_history.specs.History.{History, start, ◌▹◌, new_office, known, next, mails}
+use Rattle.pc_office_history.specs.History.{History, start, ◌▹◌, new_office, known, next, mails, mail_numbered}
 use Rattle.pc_office_history.specs.Allowed.{is_allowed}
 use Rattle.pc_office_history.specs.Answers.{addresses_of, waiting_past, board_of, boards_among}
 use Rattle.pc_office_history.specs.Limits.{board_weight, limit_passed}
@@ -125,23 +125,35 @@ PulledByOne = (waits (sent_to_three ▹ Pulled bob 1) bob 0 ≡ [])
     × ((record_of (sent_to_three ▹ Pulled bob 1 ▹ Pulled ann 1)).kept ≡ [])
     × ((record_of (sent_to_three ▹ Pulled bob 1 ▹ Pulled ann 1)).boards ≡ (news, note ∷ []) ∷ [])
 
--- an address for a second mailbox; three mails to it, of which two are pulled, and one more
-abbrev pub three_to_work : History
-three_to_work = new_office ▹ AddUser ann ▹ TakeAddress ann_work ann work ▹ Accept (ann_work ∷ []) note ▹ Accept (ann_work ∷ []) other_note ▹ Accept (ann ∷ []) note
+-- an address for a second mailbox; two mails to it, and one to the inbox
+abbrev pub to_two_mailboxes : History
+to_two_mailboxes = new_office ▹ AddUser ann ▹ TakeAddress ann_work ann work ▹ Accept (ann_work ∷ []) note ▹ Accept (ann_work ∷ []) other_note ▹ Accept (ann ∷ []) note
 
 -- mails go to the mailbox of their address, in order, and are asked for past a number
-abbrev pub ThreeToWork : Type 0
-ThreeToWork = (waits three_to_work ann 0 ≡ mail 1 work note ∷ mail 2 work other_note ∷ mail 3 box note ∷ [])
-    × (waits three_to_work ann 1 ≡ mail 2 work other_note ∷ mail 3 box note ∷ [])
-    × (waits three_to_work ann 3 ≡ [])
-    × (waits (three_to_work ▹ Pulled ann 2) ann 0 ≡ mail 3 box note ∷ [])
-    × (waits (three_to_work ▹ Pulled ann 2) ann 3 ≡ [])
-    × (waits (three_to_work ▹ Pulled ann 3 ▹ Accept (ann_work ∷ []) note) ann 1 ≡ mail 4 work note ∷ [])
+abbrev pub ToTwoMailboxes : Type 0
+ToTwoMailboxes = (waits to_two_mailboxes ann 0 ≡ mail 1 work note ∷ mail 2 work other_note ∷ mail 3 box note ∷ [])
+    × (waits to_two_mailboxes ann 1 ≡ mail 2 work other_note ∷ mail 3 box note ∷ [])
+    × (waits to_two_mailboxes ann 3 ≡ [])
+    × (waits (to_two_mailboxes ▹ Pulled ann 2) ann 0 ≡ mail 3 box note ∷ [])
+    × (waits (to_two_mailboxes ▹ Pulled ann 2) ann 3 ≡ [])
+    × (waits (to_two_mailboxes ▹ Pulled ann 3 ▹ Accept (ann_work ∷ []) note) ann 1 ≡ mail 4 work note ∷ [])
+
+-- an address of a second mailbox: three mails to it are pulled, and one more comes
+abbrev pub three_pulled : History
+three_pulled = new_office ▹ AddUser ann ▹ TakeAddress ann_work ann work ▹ Accept (ann_work ∷ []) note ▹ Accept (ann_work ∷ []) note ▹ Accept (ann_work ∷ []) note ▹ Pulled ann 3 ▹ Accept (ann_work ∷ []) other_note
+
+abbrev pub ThreePulled : Type 0
+ThreePulled = (waits three_pulled ann 0 ≡ mail 4 work other_note ∷ [])
+    × (waits three_pulled ann 3 ≡ mail 4 work other_note ∷ [])
+    × (waits three_pulled ann 4 ≡ [])
+    × ((record_of three_pulled).kept ≡ record { number = 4; targets = target ann work ∷ []; message = other_note } ∷ [])
+    × (mail_numbered three_pulled 2 ≡ Some (kept_for 2 (target ann work ∷ [])))
+    × (mail_numbered three_pulled 5 ≡ None)
 
 -- a mail goes to a user once: where two of its names are the user's, to the mailbox of the first
 abbrev pub FirstName : Type 0
-FirstName = (waits (three_to_work ▹ Accept (ann_work ∷ ann ∷ []) note) ann 3 ≡ mail 4 work note ∷ [])
-    × (waits (three_to_work ▹ Accept (ann ∷ ann_work ∷ []) note) ann 3 ≡ mail 4 box note ∷ [])
+FirstName = (waits (to_two_mailboxes ▹ Accept (ann_work ∷ ann ∷ []) note) ann 3 ≡ mail 4 work note ∷ [])
+    × (waits (to_two_mailboxes ▹ Accept (ann ∷ ann_work ∷ []) note) ann 3 ≡ mail 4 box note ∷ [])
     × (mails (enrolled ▹ TakeAddress ann_work ann work ▹ TakeAddress eve bob work ▹ Accept (eve ∷ ann_work ∷ news ∷ bob ∷ ann ∷ []) note) ≡ kept_for 1 (target bob work ∷ target ann work ∷ []) ∷ [])
 
 -- an address that another user took since: what was sent before stays where it went
@@ -318,7 +330,7 @@ BoardWeight = (message : List (List ℕ))
 
 -- a new office is legal, and so are the histories above
 abbrev pub SamplesAreLegal : Type 0
-SamplesAreLegal = IsLegal new_office × IsLegal sent_to_three × IsLegal one_pulled × IsLegal three_to_work × IsLegal taken_by_other × IsLegal taken_in_turn × IsLegal on_boards
+SamplesAreLegal = IsLegal new_office × IsLegal sent_to_three × IsLegal one_pulled × IsLegal to_two_mailboxes × IsLegal three_pulled × IsLegal taken_by_other × IsLegal taken_in_turn × IsLegal on_boards
 
 -- ---- bases
 

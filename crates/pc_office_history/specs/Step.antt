@@ -12,7 +12,7 @@ use Rattle.pc_office_history.specs.Record.{OfficeRecord}
 use Rattle.pc_office_history.specs.Effect.{other_targets, targets_of}
 use Rattle.pc_office_history.specs.History.{History, start, ◌▹◌}
 
--- somebody is left
+-- these are somebody's
 abbrev pub is_awaited : List Target → Bool
 is_awaited [] = false
 is_awaited (target ∷ targets) = true

@@ -1,6 +1,10 @@
 //! What the office keeps of a mail until all for whom it is have pulled it.
 
-ghost use Rattle.std.specs.Prelude.{◌≡◌, [], ◌∷◌, ◌++◌, OnOk, OnErr};
+ghost use Rattle.std.specs.Prelude.{◌≡◌, not, [], ◌∷◌, ◌++◌, OnOk, OnErr};
+ghost use Rattle.std.specs.Option.{option_copied};
+ghost use Rattle.pc_office_history.specs.Record.{target_of};
+ghost use Rattle.pc_office_history.specs.Effect.{other_targets};
+ghost use Rattle.pc_office_history.specs.Step.{is_awaited, pulled_by};
 
 use pc_base::{Memory, Name};
 use pc_message::Message;
@@ -48,6 +52,27 @@ impl Targets {
         Ok(())
     }
 
+    /// Takes away what is a user's.
+    pub fn remove(&mut self, user: &Name)
+        ensures { self.new ≡ other_targets user.now self.old }
+    {
+        self.targets.retain(|target| *user != target.user);
+    }
+
+    /// What is a user's, if anything is.
+    pub fn of(&self, user: &Name) -> Option<&Target>
+        ensures { option_copied result ≡ target_of user.now self.now }
+    {
+        self.targets.iter().find(|target| *user == target.user)
+    }
+
+    /// Whether there is none.
+    pub fn is_empty(&self) -> bool
+        ensures { result ≡ not (is_awaited self.now) }
+    {
+        self.targets.is_empty()
+    }
+
     /// The items, in order.
     pub fn as_slice(&self) -> &[Target]
         ensures { result.now ≡ self.now }
@@ -62,4 +87,15 @@ pub struct KeptMail {
     pub number: u64,
     pub targets: Targets,
     pub message: Message,
+}
+
+impl KeptMail {
+    /// Notes that a user has pulled its mails up to this number.
+    pub fn note(&mut self, user: &Name, number: u64)
+        ensures { self.new ≡ pulled_by user.now number self.old }
+    {
+        if self.number <= number {
+            self.targets.remove(user);
+        }
+    }
 }

@@ -1,6 +1,6 @@
 //! Small histories, with what their answers must be. Each law is the contract of a function that does nothing.
 
-ghost use Rattle.pc_office_history.specs.Samples.{SentToThree, NoRecipient, OnePulled, NoSuchPull, PulledByOne, ThreeToWork, FirstName, TakenByOther, NamesAreShared, NoSuchAddress, InOrderOfTaking, NamesApart, OnBoards, SixtyFourAtOnce, BaseGoesOn, NamesAreFew, MailsAreFew, WaitingIsFew, BoardIsFull, WaitingWeight, BoardWeight, SamplesAreLegal, NoBases};
+ghost use Rattle.pc_office_history.specs.Samples.{SentToThree, NoRecipient, OnePulled, NoSuchPull, PulledByOne, ToTwoMailboxes, ThreePulled, FirstName, TakenByOther, NamesAreShared, NoSuchAddress, InOrderOfTaking, NamesApart, OnBoards, SixtyFourAtOnce, BaseGoesOn, NamesAreFew, MailsAreFew, WaitingIsFew, BoardIsFull, WaitingWeight, BoardWeight, SamplesAreLegal, NoBases};
 
 /// A mail to two users and a board.
 pub fn sent_to_three()
@@ -27,9 +27,14 @@ pub fn pulled_by_one()
     ensures { PulledByOne }
 {}
 
-/// Mails to an address of a second mailbox.
-pub fn three_to_work()
-    ensures { ThreeToWork }
+/// Mails to two mailboxes of a user.
+pub fn to_two_mailboxes()
+    ensures { ToTwoMailboxes }
+{}
+
+/// Three mails that are pulled, and one more.
+pub fn three_pulled()
+    ensures { ThreePulled }
 {}
 
 /// A mail goes to a user once, as the first of its names says.

@@ -53,3 +53,30 @@ fn targets_keep_their_order(rt: HostRuntime) -> Result<(), Fail> {
     assert_eq!(rt; targets.as_slice()[1].user.bytes(), b"bob".as_slice());
     Ok(())
 }
+
+#[test]
+fn pulled_mail_is_noted(rt: HostRuntime) -> Result<(), Fail> {
+    let ann = Name::read(b"ann").ok_or("a name")?;
+    let bob = Name::read(b"bob").ok_or("a name")?;
+    let Ok(message) = Message::of(Lines::new(rt.alloc())) else {
+        return Err("a message".into());
+    };
+    let mut targets = Targets::new(rt.alloc());
+    targets.push(Target {
+        user: ann,
+        mailbox: bob,
+    })?;
+    let mut mail = KeptMail {
+        number: 2,
+        targets,
+        message,
+    };
+    mail.note(&ann, 1);
+    mail.note(&bob, 2);
+    let found = mail.targets.of(&ann).ok_or("a target")?;
+    assert_eq!(rt; found.mailbox.bytes(), b"bob".as_slice());
+    assert!(rt; mail.targets.of(&bob).is_none());
+    mail.note(&ann, 2);
+    assert!(rt; mail.targets.is_empty());
+    Ok(())
+}
