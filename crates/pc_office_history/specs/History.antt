@@ -33,7 +33,7 @@ abbrev pub next : History → ℕ
 next (start r number) = number
 next (h ▹ e) = suc (next h)
 
--- the mails that were accepted, in order, each with all its targets; of those before the base what it keeps
+-- the mails that were accepted, in order, each with all the users for whom it is; of those before the base what it keeps
 abbrev pub mails : History → List KeptMail
 mails (start r number) = r.kept
 mails (h ▹ e) = mails h ++ new_mails e (known h).owner (known h).accepted

@@ -29,7 +29,7 @@ pub record IsKept (users : List (List ℕ × ℕ)) (accepted : ℕ) (mail : Kept
   pub unpulled : AllByRecursion (IsUnpulled users mail.number) mail.targets
   pub so_far : mail.number ≤ accepted
 
--- what the record of a legal history is: all but the limits
+-- a well-formed record: canonical but for the limits
 pub record IsWellFormed (r : OfficeRecord) : Type 0 where
   -- no board has the name of a user or an address
   pub user_names : AreDistinct (keys_of r.users ++ keys_of r.boards)

@@ -265,7 +265,7 @@ BaseGoesOn = IsLegal based
 abbrev pub names : ℕ → List (List ℕ)
 names count = map (λ number. 110 ∷ number ∷ []) (numbers 0 count)
 
--- a record with so many users, boards and addresses
+-- a record with so many users, boards and addresses; no well-formed one, since boards have names of users and addresses
 abbrev pub filled : ℕ → ℕ → ℕ → OfficeRecord
 filled users boards addresses = record empty_record {
   users = map (λ name. (name, 0)) (names users);
@@ -334,7 +334,7 @@ SamplesAreLegal = IsLegal new_office × IsLegal sent_to_three × IsLegal one_pul
 
 -- ---- bases
 
--- no history has this record
+-- this record isn't well formed
 abbrev pub IsNoBase : OfficeRecord → Type 0
 IsNoBase r = IsWellFormed r → ⊥
 

@@ -12,7 +12,7 @@ pub const MOST_ADDRESSES: usize = 1_024;
 /// Names that a mail may be for.
 pub const MOST_RECIPIENTS: usize = 64;
 
-/// Mails that wait for one user.
+/// Mails that wait for one user, past the number that is noted.
 pub const MOST_WAITING: usize = 1_024;
 
 /// The weight of the mails that wait for one user, each its size and 256 bytes.

@@ -117,7 +117,7 @@ pub fn samples_are_legal()
     ensures { SamplesAreLegal }
 {}
 
-/// Records that stand for no history.
+/// Records that aren't well formed.
 pub fn no_bases()
     ensures { NoBases }
 {}
