@@ -1,5 +1,5 @@
 -- What waits for a user, over many entries.
-use Rattle.std.proofs.Common.{◌≡◌, ℕ, zero, suc, ◌+◌, ◌<◌, ◌≤◌, ◌==◌, Bool, true, false, cond, ◌⊎◌, nat_lt, List, [], ◌∷◌, ◌++◌, length, map, filter, find, take, Option, None, Some, unwrap_or, option_map, MatchOption, slice_get, refl, sym, ◌∙◌, ap, subst, inl, inr, arith, le_refl, le_trans, append-nil, append_assoc, lt-ltb, le-ltb, eq-eqb, ne_eqb}
+use Rattle.std.proofs.Common.{◌≡◌, ℕ, zero, suc, ◌+◌, ◌<◌, ◌≤◌, ◌==◌, Bool, true, false, cond, ◌&&◌, ◌⊎◌, nat_lt, List, [], ◌∷◌, ◌++◌, length, map, filter, find, take, Option, None, Some, unwrap_or, option_map, MatchOption, slice_get, refl, sym, ◌∙◌, ap, subst, inl, inr, arith, le_refl, le_trans, append-nil, append_assoc, lt-ltb, le-ltb, eq-eqb, ne_eqb}
 use Rattle.std.specs.Prelude.{⊤, Contains}
 use Rattle.std.specs.List.{AllByRecursion as Every, cons_option}
 use Rattle.std.specs.Map.{lookup}
@@ -9,7 +9,7 @@ use Rattle.std.proofs.lemmas.Bool.{cases_lt, ltb-true}
 use Rattle.std.proofs.lemmas.List.Elements.{filter-append, Contains-append_left, Contains-append_right}
 use Rattle.pc_message.specs.declared.lists.Mail.{Mail}
 use Rattle.pc_history.specs.declared.limits.TheConstants.{MOST_LETTERS, LAST_MAIL}
-use Rattle.pc_history.specs.Table.{same, numbers}
+use Rattle.pc_history.specs.Table.{same, is_among, numbers}
 use Rattle.pc_history.specs.Legal.{Ordered}
 use Rattle.pc_history.proofs.Tables.{same-true, is_among-keys}
 use Rattle.pc_history.proofs.Uids.{Every-weaker, Every-append, Every-filter, Every-zip, numbers-append}
@@ -22,10 +22,10 @@ use Rattle.pc_office_history.specs.Record.{OfficeRecord, target_of, mail_at, mai
 use Rattle.pc_office_history.specs.Effect.{noted_after, accepted_after, targets_of, new_mails, new_messages}
 use Rattle.pc_office_history.specs.Known.{Known, said_by, is_past}
 use Rattle.pc_office_history.specs.History.{History, start, ◌▹◌, ◌▹▹◌, known, mails, mail_numbered}
-use Rattle.pc_office_history.specs.Allowed.{is_allowed, is_user}
+use Rattle.pc_office_history.specs.Allowed.{is_allowed, is_user, is_board}
 use Rattle.pc_office_history.specs.Step.{record_of}
 use Rattle.pc_office_history.specs.Legal.{IsKept, IsWellFormed, IsLegal}
-use Rattle.pc_office_history.specs.Laws.{IsInOrder, IsToldFirst, AreToldInOrder, mail_to, accept_count}
+use Rattle.pc_office_history.specs.Laws.{IsInOrder, IsToldFirst, AreToldInOrder, AreAllTold, last_number, sent_to, mail_to, accept_count}
 use Rattle.pc_office_history.proofs.Mails.{mails_for-append, past-all, Every-mails_for}
 use Rattle.pc_office_history.proofs.Agreement.{pulled-parts, absent, noted-upto, waiting-past}
 use Rattle.pc_office_history.proofs.Histories.{Stands-legal, legal-front}
@@ -237,6 +237,41 @@ told-in-order h legal user number =
       last = let stands = Stands-legal h legal in subst (λ (k : Known). k.accepted ≤ LAST_MAIL) (sym stands.alike) stands.formed.accepted;
     }
 
+-- ---- nothing is left out
+
+-- no number is less than all before it
+last-upto : (low number : ℕ) (ms : List Mail) → low ≤ number → Every (λ (mail : Mail). low < mail.number) ms → low ≤ last_number number ms
+last-upto low number [] le h = le
+last-upto low number (mail ∷ ms) le h = last-upto low mail.number ms (omega (arith, h.0)) h.1
+
+take-rest : (n number : ℕ) (ms : List Mail) → Ordered (λ (mail later : Mail). mail.number < later.number) ms → filter (is_past number) ms ≡ take n (filter (is_past number) ms) ++ filter (is_past (last_number number (take n (filter (is_past number) ms)))) ms
+take-rest zero number ms order = refl
+take-rest (suc n) number [] order = refl
+take-rest (suc n) number (mail ∷ ms) order = elim (cases_lt number mail.number) [
+  | inl past ↦
+    let all : filter (is_past number) ms ≡ filter (is_past mail.number) ms = past-all number ms (Every-weaker (λ (later : Mail). mail.number < later.number) (λ (later : Mail). number < later.number) (λ later g. omega (arith, past, g)) ms order.0) ∙ sym (past-all mail.number ms order.0) in
+    let told = take n (filter (is_past mail.number) ms) in
+    let upto : mail.number ≤ last_number mail.number told = last-upto mail.number mail.number told (le_refl mail.number) (Every-take (λ (later : Mail). mail.number < later.number) n (filter (is_past mail.number) ms) (Every-filter (λ (later : Mail). mail.number < later.number) (is_past mail.number) ms order.0)) in
+    let front : filter (is_past number) (mail ∷ ms) ≡ mail ∷ filter (is_past mail.number) ms = rw (lt-ltb number mail.number past) (ap (λ rest. mail ∷ rest) all) in
+    subst (λ (rest : List Mail). rest ≡ take (suc n) rest ++ filter (is_past (last_number number (take (suc n) rest))) (mail ∷ ms)) (sym front) (rw (le-ltb (last_number mail.number told) mail.number upto) (ap (λ rest. mail ∷ rest) (take-rest n mail.number ms order.1)))
+  | inr upto ↦
+    let told = take (suc n) (filter (is_past number) ms) in
+    let last : number ≤ last_number number told = last-upto number number told (le_refl number) (Every-take (λ (later : Mail). number < later.number) (suc n) (filter (is_past number) ms) (Every-weaker (λ (later : Mail). is_past number later ≡ true) (λ (later : Mail). number < later.number) (λ later g. ltb-true number later.number g) (filter (is_past number) ms) (Every-passes (is_past number) ms))) in
+    let rest_alone : filter (is_past number) (mail ∷ ms) ≡ filter (is_past number) ms = rw (le-ltb number mail.number upto) refl in
+    subst (λ (rest : List Mail). rest ≡ take (suc n) rest ++ filter (is_past (last_number number (take (suc n) rest))) (mail ∷ ms)) (sym rest_alone) (rw (le-ltb (last_number number told) mail.number (le_trans upto last)) (take-rest (suc n) number ms order.1))
+]
+
+take-all : {X : Type 0} (n : ℕ) (xs : List X) → length (take n xs) < n → xs ≡ take n xs
+take-all zero xs h = absurd (omega (arith, h))
+take-all (suc n) [] h = refl
+take-all (suc n) (x ∷ xs) h = ap (λ rest. x ∷ rest) (take-all n xs (omega (arith, h)))
+
+pub nothing-left-out : (h : History) → IsLegal h → (user : List ℕ) (number : ℕ) → AreAllTold (known h) user number
+nothing-left-out h legal user number = record {
+  told_first = take-rest MOST_LETTERS number ((known h).waiting user) (in-order h legal user).rising;
+  all = take-all MOST_LETTERS (filter (is_past number) ((known h).waiting user));
+}
+
 -- ---- the numbers of mails
 
 map-append : {X Y : Type 0} (f : X → Y) (xs ys : List X) → map f (xs ++ ys) ≡ map f xs ++ map f ys
@@ -305,3 +340,21 @@ own-number h legal names message es =
 pub boards-grow : (h : History) (es : List OfficeEntry) (board : List ℕ) → (more : List (List (List ℕ))) × ((known (h ▹▹ es)).messages board ≡ (known h).messages board ++ more)
 boards-grow h [] board = ([], sym (append-nil ((known h).messages board)))
 boards-grow h (e ∷ es) board = let rest = boards-grow (h ▹ e) es board in (new_messages e (known h).boards board ++ rest.0, rest.1 ∙ append_assoc ((known h).messages board) (new_messages e (known h).boards board) rest.0)
+
+pub message-added : (h : History) (e : OfficeEntry) (board : List ℕ) → (known (h ▹ e)).messages board ≡ (known h).messages board ++ cond (is_board (known h) board) (sent_to board e) []
+message-added h e board = ap (λ messages. (known h).messages board ++ messages) (new e)
+  where
+    named : (among known_board : Bool) (message : List (List ℕ)) → cond {A = List (List (List ℕ))} (among && known_board) (message ∷ []) [] ≡ cond known_board (cond among (message ∷ []) []) []
+    named true true message = refl
+    named true false message = refl
+    named false true message = refl
+    named false false message = refl
+
+    none : (known_board : Bool) → [] ≡ cond {A = List (List (List ℕ))} known_board [] []
+    none true = refl
+    none false = refl
+
+    new : (e' : OfficeEntry) → new_messages e' (known h).boards board ≡ cond (is_board (known h) board) (sent_to board e') []
+    new (Accept names message) = named (is_among board names) (is_board (known h) board) message
+    new (AddUser user) = none (is_board (known h) board)
+    new _ = none (is_board (known h) board)

@@ -188,6 +188,19 @@ pub record AreToldInOrder (k : Known) (user : List ℕ) (number : ℕ) : Type 0 
 abbrev pub MailsAreToldInOrder : Type 0
 MailsAreToldInOrder = (h : History) → IsLegal h → (user : List ℕ) (number : ℕ) → AreToldInOrder (known h) user number
 
+-- the number of the last of these mails, or this one where there is none
+abbrev pub last_number : ℕ → List Mail → ℕ
+last_number number [] = number
+last_number number (mail ∷ mails) = last_number mail.number mails
+
+-- what waits past a number is what is told of it, and then what waits past the last number that is told; where less than 64 mails are told, these are all
+pub record AreAllTold (k : Known) (user : List ℕ) (number : ℕ) : Type 0 where
+  pub told_first : filter (is_past number) (k.waiting user) ≡ waiting_past k user number ++ filter (is_past (last_number number (waiting_past k user number))) (k.waiting user)
+  pub all : length (waiting_past k user number) < MOST_LETTERS → filter (is_past number) (k.waiting user) ≡ waiting_past k user number
+
+abbrev pub NothingIsLeftOut : Type 0
+NothingIsLeftOut = (h : History) → IsLegal h → (user : List ℕ) (number : ℕ) → AreAllTold (known h) user number
+
 -- a mail passes the limit of what may wait just where it does so for a user to whom it goes
 abbrev pub WaitingIsOfTargets : Type 0
 WaitingIsOfTargets = (h : History) (names message : List (List ℕ)) → IsLegal h → is_allowed (known h) (Accept names message) ≡ true → would_pass (known h) (Accept names message) limit.Waiting ≡ list_any (λ target. are_too_many ((known (h ▹ Accept names message)).waiting target.user)) (targets_of (known h).owner names)
@@ -197,6 +210,15 @@ WaitingIsOfTargets = (h : History) (names message : List (List ℕ)) → IsLegal
 -- what stands on a board stays, in its place
 abbrev pub BoardsOnlyGrow : Type 0
 BoardsOnlyGrow = (h : History) (entries : List OfficeEntry) (board : List ℕ) → (more : List (List (List ℕ))) × ((known (h ▹▹ entries)).messages board ≡ (known h).messages board ++ more)
+
+-- what an entry sends to a name: one message, or none
+abbrev pub sent_to : List ℕ → OfficeEntry → List (List (List ℕ))
+sent_to name (Accept names message) = if is_among name names then message ∷ [] else []
+sent_to name _ = []
+
+-- a board has the messages that it had, and behind them what the entry sends to it; where no board is, nothing comes
+abbrev pub MessageIsAdded : Type 0
+MessageIsAdded = (h : History) (e : OfficeEntry) (board : List ℕ) → (known (h ▹ e)).messages board ≡ (known h).messages board ++ (if is_board (known h) board then sent_to board e else [])
 
 -- a message counts once more for each board that it is sent to
 abbrev pub WeightIsAdded : Type 0

@@ -1,6 +1,6 @@
 //! What holds of every legal history. Each law is the contract of a function that does nothing.
 
-ghost use Rattle.pc_office_history.specs.Laws.{RecordAnswersAsHistory, RecordInPlaceOfHistory, RecordIsCanonical, LimitsHold, LimitIsPassed, StepIsOneEntryMore, StepIsFormedAgain, RecordIsReadOff, RecordIsBounded, NamesAreApart, OwnNameStays, OwnNamesAreKept, TargetIsOfFirstName, MailsAreNumbered, MailHasItsNumber, WaitingIsPastNoted, WaitingIsInOrder, NumbersNeverFall, AcceptedMailWaits, MailIsAdded, PulledIsTaken, WaitingStays, MailsAreToldInOrder, WaitingIsOfTargets, BoardsOnlyGrow, WeightIsAdded};
+ghost use Rattle.pc_office_history.specs.Laws.{RecordAnswersAsHistory, RecordInPlaceOfHistory, RecordIsCanonical, LimitsHold, LimitIsPassed, StepIsOneEntryMore, StepIsFormedAgain, RecordIsReadOff, RecordIsBounded, NamesAreApart, OwnNameStays, OwnNamesAreKept, TargetIsOfFirstName, MailsAreNumbered, MailHasItsNumber, WaitingIsPastNoted, WaitingIsInOrder, NumbersNeverFall, AcceptedMailWaits, MailIsAdded, PulledIsTaken, WaitingStays, MailsAreToldInOrder, NothingIsLeftOut, WaitingIsOfTargets, BoardsOnlyGrow, MessageIsAdded, WeightIsAdded};
 
 /// The record of a history answers every question as the history does.
 pub fn record_answers_as_history()
@@ -117,6 +117,11 @@ pub fn mails_are_told_in_order()
     ensures { MailsAreToldInOrder }
 {}
 
+/// What is told leaves nothing out of what waits.
+pub fn nothing_is_left_out()
+    ensures { NothingIsLeftOut }
+{}
+
 /// Whether too much would wait is known from the users to whom a mail goes.
 pub fn waiting_is_of_targets()
     ensures { WaitingIsOfTargets }
@@ -125,6 +130,11 @@ pub fn waiting_is_of_targets()
 /// What stands on a board stays there.
 pub fn boards_only_grow()
     ensures { BoardsOnlyGrow }
+{}
+
+/// A message is added to the boards that it is sent to, and nothing else is.
+pub fn message_is_added()
+    ensures { MessageIsAdded }
 {}
 
 /// A message that is sent to two boards counts twice.
