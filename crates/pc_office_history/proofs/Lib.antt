@@ -6,3 +6,4 @@ pub mod Within
 pub mod Waiting
 pub mod Names
 pub mod Bounds
+pub mod AtLimit

@@ -249,16 +249,16 @@ take-rest zero number ms order = refl
 take-rest (suc n) number [] order = refl
 take-rest (suc n) number (mail ∷ ms) order = elim (cases_lt number mail.number) [
   | inl past ↦
-    let all : filter (is_past number) ms ≡ filter (is_past mail.number) ms = past-all number ms (Every-weaker (λ (later : Mail). mail.number < later.number) (λ (later : Mail). number < later.number) (λ later g. omega (arith, past, g)) ms order.0) ∙ sym (past-all mail.number ms order.0) in
-    let told = take n (filter (is_past mail.number) ms) in
-    let upto : mail.number ≤ last_number mail.number told = last-upto mail.number mail.number told (le_refl mail.number) (Every-take (λ (later : Mail). mail.number < later.number) n (filter (is_past mail.number) ms) (Every-filter (λ (later : Mail). mail.number < later.number) (is_past mail.number) ms order.0)) in
-    let front : filter (is_past number) (mail ∷ ms) ≡ mail ∷ filter (is_past mail.number) ms = rw (lt-ltb number mail.number past) (ap (λ rest. mail ∷ rest) all) in
-    subst (λ (rest : List Mail). rest ≡ take (suc n) rest ++ filter (is_past (last_number number (take (suc n) rest))) (mail ∷ ms)) (sym front) (rw (le-ltb (last_number mail.number told) mail.number upto) (ap (λ rest. mail ∷ rest) (take-rest n mail.number ms order.1)))
+      let all : filter (is_past number) ms ≡ filter (is_past mail.number) ms = past-all number ms (Every-weaker (λ (later : Mail). mail.number < later.number) (λ (later : Mail). number < later.number) (λ later g. omega (arith, past, g)) ms order.0) ∙ sym (past-all mail.number ms order.0) in
+      let told = take n (filter (is_past mail.number) ms) in
+      let upto : mail.number ≤ last_number mail.number told = last-upto mail.number mail.number told (le_refl mail.number) (Every-take (λ (later : Mail). mail.number < later.number) n (filter (is_past mail.number) ms) (Every-filter (λ (later : Mail). mail.number < later.number) (is_past mail.number) ms order.0)) in
+      let front : filter (is_past number) (mail ∷ ms) ≡ mail ∷ filter (is_past mail.number) ms = rw (lt-ltb number mail.number past) (ap (λ rest. mail ∷ rest) all) in
+      subst (λ (rest : List Mail). rest ≡ take (suc n) rest ++ filter (is_past (last_number number (take (suc n) rest))) (mail ∷ ms)) (sym front) (rw (le-ltb (last_number mail.number told) mail.number upto) (ap (λ rest. mail ∷ rest) (take-rest n mail.number ms order.1)))
   | inr upto ↦
-    let told = take (suc n) (filter (is_past number) ms) in
-    let last : number ≤ last_number number told = last-upto number number told (le_refl number) (Every-take (λ (later : Mail). number < later.number) (suc n) (filter (is_past number) ms) (Every-weaker (λ (later : Mail). is_past number later ≡ true) (λ (later : Mail). number < later.number) (λ later g. ltb-true number later.number g) (filter (is_past number) ms) (Every-passes (is_past number) ms))) in
-    let rest_alone : filter (is_past number) (mail ∷ ms) ≡ filter (is_past number) ms = rw (le-ltb number mail.number upto) refl in
-    subst (λ (rest : List Mail). rest ≡ take (suc n) rest ++ filter (is_past (last_number number (take (suc n) rest))) (mail ∷ ms)) (sym rest_alone) (rw (le-ltb (last_number number told) mail.number (le_trans upto last)) (take-rest (suc n) number ms order.1))
+      let told = take (suc n) (filter (is_past number) ms) in
+      let last : number ≤ last_number number told = last-upto number number told (le_refl number) (Every-take (λ (later : Mail). number < later.number) (suc n) (filter (is_past number) ms) (Every-weaker (λ (later : Mail). is_past number later ≡ true) (λ (later : Mail). number < later.number) (λ later g. ltb-true number later.number g) (filter (is_past number) ms) (Every-passes (is_past number) ms))) in
+      let rest_alone : filter (is_past number) (mail ∷ ms) ≡ filter (is_past number) ms = rw (le-ltb number mail.number upto) refl in
+      subst (λ (rest : List Mail). rest ≡ take (suc n) rest ++ filter (is_past (last_number number (take (suc n) rest))) (mail ∷ ms)) (sym rest_alone) (rw (le-ltb (last_number number told) mail.number (le_trans upto last)) (take-rest (suc n) number ms order.1))
 ]
 
 take-all : {X : Type 0} (n : ℕ) (xs : List X) → length (take n xs) < n → xs ≡ take n xs

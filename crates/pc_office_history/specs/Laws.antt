@@ -193,7 +193,7 @@ abbrev pub last_number : ℕ → List Mail → ℕ
 last_number number [] = number
 last_number number (mail ∷ mails) = last_number mail.number mails
 
--- what waits past a number is what is told of it, and then what waits past the last number that is told; where less than 64 mails are told, these are all
+-- what waits past a number is what is told of it, and then what waits past the last number that is told; where fewer than 64 mails are told, these are all
 pub record AreAllTold (k : Known) (user : List ℕ) (number : ℕ) : Type 0 where
   pub told_first : filter (is_past number) (k.waiting user) ≡ waiting_past k user number ++ filter (is_past (last_number number (waiting_past k user number))) (k.waiting user)
   pub all : length (waiting_past k user number) < MOST_LETTERS → filter (is_past number) (k.waiting user) ≡ waiting_past k user number

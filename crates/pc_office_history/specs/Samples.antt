@@ -15,7 +15,7 @@ use Rattle.pc_office_history.specs.Allowed.{is_allowed}
 use Rattle.pc_office_history.specs.Answers.{addresses_of, waiting_past, board_of, boards_among}
 use Rattle.pc_office_history.specs.Limits.{board_weight, limit_passed}
 use Rattle.pc_office_history.specs.Step.{record_of}
-use Rattle.pc_office_history.specs.Legal.{IsWellFormed, IsLegal}
+use Rattle.pc_office_history.specs.Legal.{IsWellFormed, IsCanonical, IsLegal}
 
 abbrev pub ann : List ℕ
 ann = codes "ann"
@@ -265,7 +265,7 @@ BaseGoesOn = IsLegal based
 abbrev pub names : ℕ → List (List ℕ)
 names count = map (λ number. 110 ∷ number ∷ []) (numbers 0 count)
 
--- a record with so many users, boards and addresses; no well-formed one, since boards have names of users and addresses
+-- a record with so many users, boards and addresses, which share their names: with users and boards it is no well-formed record
 abbrev pub filled : ℕ → ℕ → ℕ → OfficeRecord
 filled users boards addresses = record empty_record {
   users = map (λ name. (name, 0)) (names users);
@@ -355,3 +355,27 @@ NoBases = IsNoBase (record some_record { users = (ann, 1) ∷ (bob, 2) ∷ (ann,
     × IsNoBase (record some_record { kept = kept_for 3 (target ann box ∷ target ann work ∷ []) ∷ [] })
     × IsNoBase (record some_record { kept = kept_for 3 (target eve box ∷ []) ∷ [] })
     × IsNoBase (record some_record { accepted = 9223372036854775808 })
+
+-- this record passes a limit, and is well formed
+abbrev pub PassesLimit : OfficeRecord → Type 0
+PassesLimit r = IsWellFormed r × (IsCanonical r → ⊥)
+
+-- 32 users are the most of a base
+abbrev pub UsersAtLimit : Type 0
+UsersAtLimit = IsCanonical (filled 32 0 32) × PassesLimit (filled 33 0 33)
+
+-- 4,096 messages are the most of a board
+abbrev pub BoardAtLimit : Type 0
+BoardAtLimit = IsCanonical (on_board (replicate 4096 [])) × PassesLimit (on_board (replicate 4097 []))
+
+-- 1,024 mails are the most that wait for a user of a base
+abbrev pub WaitingAtLimit : Type 0
+WaitingAtLimit = IsCanonical (waiting_for_ann 1024) × PassesLimit (waiting_for_ann 1025)
+
+-- a user of a base may have no address, and then never gets its own name as one
+abbrev pub without_address : OfficeRecord
+without_address = record empty_record { users = (ann, 0) ∷ [] }
+
+abbrev pub WithoutAddress : Type 0
+WithoutAddress = IsCanonical without_address
+    × (allows (start without_address 9) (TakeAddress ann ann box ∷ TakeAddress eve ann box ∷ Accept (ann ∷ []) note ∷ []) ≡ false ∷ true ∷ false ∷ [])

@@ -1,6 +1,6 @@
 //! Small histories, with what their answers must be. Each law is the contract of a function that does nothing.
 
-ghost use Rattle.pc_office_history.specs.Samples.{SentToThree, NoRecipient, OnePulled, NoSuchPull, PulledByOne, ToTwoMailboxes, ThreePulled, FirstName, TakenByOther, NamesAreShared, NoSuchAddress, InOrderOfTaking, NamesApart, OnBoards, SixtyFourAtOnce, BaseGoesOn, NamesAreFew, MailsAreFew, WaitingIsFew, BoardIsFull, WaitingWeight, BoardWeight, SamplesAreLegal, NoBases};
+ghost use Rattle.pc_office_history.specs.Samples.{SentToThree, NoRecipient, OnePulled, NoSuchPull, PulledByOne, ToTwoMailboxes, ThreePulled, FirstName, TakenByOther, NamesAreShared, NoSuchAddress, InOrderOfTaking, NamesApart, OnBoards, SixtyFourAtOnce, BaseGoesOn, NamesAreFew, MailsAreFew, WaitingIsFew, BoardIsFull, WaitingWeight, BoardWeight, SamplesAreLegal, NoBases, UsersAtLimit, BoardAtLimit, WaitingAtLimit, WithoutAddress};
 
 /// A mail to two users and a board.
 pub fn sent_to_three()
@@ -120,4 +120,24 @@ pub fn samples_are_legal()
 /// Records that aren't well formed.
 pub fn no_bases()
     ensures { NoBases }
+{}
+
+/// The most users.
+pub fn users_at_limit()
+    ensures { UsersAtLimit }
+{}
+
+/// The most messages of a board.
+pub fn board_at_limit()
+    ensures { BoardAtLimit }
+{}
+
+/// The most mails that wait for a user.
+pub fn waiting_at_limit()
+    ensures { WaitingAtLimit }
+{}
+
+/// A user without its own address.
+pub fn without_address()
+    ensures { WithoutAddress }
 {}
