@@ -1,0 +1,147 @@
+-- The numbers of the office stay within their limits.
+use Rattle.std.proofs.Common.{◌≡◌, ℕ, ◌<◌, ◌≤◌, Bool, true, false, cond, not, ◌||◌, nat_lt, List, [], ◌∷◌, ◌++◌, length, filter, find, Option, None, Some, unwrap_or, MatchOption, refl, sym, ◌∙◌, ap, subst, arith, append-nil, ltb-false, le-ltb}
+use Rattle.std.specs.List.{AllByRecursion as Every, list_any}
+use Rattle.std.specs.Map.{lookup}
+use Rattle.std.proofs.lemmas.Bool.{or_parts}
+use Rattle.std.proofs.lemmas.List.Folds.{list_any-append}
+use Rattle.pc_base.specs.declared.refusal.LimitWord.TheVariants as limit
+use Rattle.pc_message.specs.declared.lists.Mail.{Mail}
+use Rattle.pc_message.specs.Message.{weight_of}
+use Rattle.pc_history.specs.declared.limits.TheConstants.{LAST_MAIL}
+use Rattle.pc_history.specs.Table.{same, other_names, total}
+use Rattle.pc_history.proofs.Tables.{is_among-keys, some-none}
+use Rattle.pc_history.proofs.Numbers.{length-filter-le, total-append, total-filter}
+use Rattle.pc_office_history.specs.declared.limits.TheConstants.{MOST_ADDRESSES, MOST_WAITING, MOST_WAITING_WEIGHT, MOST_BOARD_MESSAGES, MOST_BOARD_WEIGHT}
+use Rattle.pc_office_history.specs.declared.kept.KeptMail.{KeptMail}
+use Rattle.pc_office_history.specs.declared.entry.OfficeEntry.{OfficeEntry}
+use Rattle.pc_office_history.specs.declared.entry.OfficeEntry.TheVariants.{AddUser, AddBoard, TakeAddress, DropAddress, Accept, Pulled}
+use Rattle.pc_office_history.specs.Record.{OfficeRecord, mail_for, mails_for}
+use Rattle.pc_office_history.specs.Known.{Known, said_by, is_past, after_entry}
+use Rattle.pc_office_history.specs.History.{History, start, ◌▹◌, known}
+use Rattle.pc_office_history.specs.Allowed.{is_allowed, is_user, is_board}
+use Rattle.pc_office_history.specs.Limits.{mail_weight, are_too_many, is_passed, would_pass, limits_of, limit_passed, IsWithin, limits_of_bases}
+use Rattle.pc_office_history.specs.Step.{record_of}
+use Rattle.pc_office_history.specs.Legal.{IsKept, IsWellFormed, IsCanonical, IsLegal}
+use Rattle.pc_office_history.proofs.Mails.{Every-mails_for, mail-unpulled}
+use Rattle.pc_office_history.proofs.Agreement.{absent, is_free-parts}
+use Rattle.pc_office_history.proofs.Histories.{Stands-legal}
+
+none-found : {X : Type 0} (p : X → Bool) (xs : List X) → find p xs ≡ None → Every (λ x. p x ≡ false) xs
+none-found p [] h = tt
+none-found {X} p (x ∷ xs) h = elim (p x) as (λ b. ◌≡◌ {A = Option X} (cond b (Some x) (find p xs)) None → (b ≡ false) × Every (λ y. p y ≡ false) xs) [ true ↦ λ g. absurd (some-none x g) | false ↦ λ g. (refl, none-found p xs g) ] h
+
+not-more : (most count fewer : ℕ) → fewer ≤ count → nat_lt most count ≡ false → nat_lt most fewer ≡ false
+not-more most count fewer le h = le-ltb most fewer (omega (arith, ltb-false most count h))
+
+list_any-weaker : {X : Type 0} (p q : X → Bool) (xs : List X) → ((x : X) → p x ≡ false → q x ≡ false) → list_any p xs ≡ false → list_any q xs ≡ false
+list_any-weaker p q [] f h = refl
+list_any-weaker p q (x ∷ xs) f h = let parts = or_parts (p x) (list_any p xs) h in λ i. f x parts.0 i || list_any-weaker p q xs f parts.1 i
+
+-- ---- mails that are fewer
+
+pub fewer-mails : (number : ℕ) (mails : List Mail) → are_too_many mails ≡ false → are_too_many (filter (is_past number) (mails ++ [])) ≡ false
+fewer-mails number mails h =
+    let parts = or_parts (nat_lt MOST_WAITING (length mails)) (nat_lt MOST_WAITING_WEIGHT (mail_weight mails)) h in
+    ap (λ ms. are_too_many (filter (is_past number) ms)) (append-nil mails)
+    ∙ (λ i. not-more MOST_WAITING (length mails) (length (filter (is_past number) mails)) (length-filter-le (is_past number) mails) parts.0 i || not-more MOST_WAITING_WEIGHT (mail_weight mails) (mail_weight (filter (is_past number) mails)) (total-filter (λ (mail : Mail). weight_of mail.message) (is_past number) mails) parts.1 i)
+
+-- ---- what is known of names that aren't there
+
+pub record KnowsNames (k : Known) : Type 0 where
+  pub nothing : (name : List ℕ) → is_user k name ≡ false → k.waiting name ≡ []
+  pub blank : (name : List ℕ) → is_board k name ≡ false → k.messages name ≡ []
+
+no-mail : (mails : List Mail) → Every (λ (mail : Mail). ⊥) mails → mails ≡ []
+no-mail [] h = refl
+no-mail (mail ∷ mails) h = absurd h.0
+
+nobody-waits : (r : OfficeRecord) (name : List ℕ) → lookup (same name) r.users ≡ None → (kept : List KeptMail) → Every (IsKept r.users r.accepted) kept → Every (λ (mail : KeptMail). MatchOption (mail_for name mail) (Unit {0}) (λ waits. ⊥)) kept
+nobody-waits r name none [] h = tt
+nobody-waits r name none (mail ∷ kept) h = (found (mail_for name mail) (mail-unpulled r.users name mail h.0.unpulled), nobody-waits r name none kept h.1)
+  where
+    found : (o : Option Mail) → MatchOption o (Unit {0}) (λ waits. MatchOption (lookup (same name) r.users) ⊥ (λ noted. noted < waits.number)) → MatchOption o (Unit {0}) (λ waits. ⊥)
+    found None g = tt
+    found (Some waits) g = subst (λ (o : Option ℕ). MatchOption o ⊥ (λ noted. noted < waits.number)) none g
+
+KnowsNames-said_by : (r : OfficeRecord) → IsWellFormed r → KnowsNames (said_by r)
+KnowsNames-said_by r formed = record {
+  nothing = λ name h. no-mail (mails_for name r.kept) (Every-mails_for (λ mail. ⊥) name r.kept (nobody-waits r name (absent (lookup (same name) r.users) (sym (is_among-keys name r.users) ∙ h)) r.kept formed.kept));
+  blank = λ name h. ap (λ o. unwrap_or o []) (absent (lookup (same name) r.boards) (sym (is_among-keys name r.boards) ∙ h));
+}
+
+pub KnowsNames-legal : (h : History) → IsLegal h → KnowsNames (known h)
+KnowsNames-legal h legal = let stands = Stands-legal h legal in subst KnowsNames (sym stands.alike) (KnowsNames-said_by (record_of h) stands.formed)
+
+-- ---- limit by limit
+
+module _ (k : Known) (knows : KnowsNames k) where
+  users-within : (e : OfficeEntry) → limit_passed k e ≡ None → is_passed k limit.Users ≡ false → is_passed (after_entry k e) limit.Users ≡ false
+  users-within (AddUser user) passed h = (none-found (would_pass k (AddUser user)) (limits_of (AddUser user)) passed).0
+  users-within (AddBoard board) passed h = h
+  users-within _ passed h = h
+
+  boards-within : (e : OfficeEntry) → limit_passed k e ≡ None → is_passed k limit.Boards ≡ false → is_passed (after_entry k e) limit.Boards ≡ false
+  boards-within (AddBoard board) passed h = (none-found (would_pass k (AddBoard board)) (limits_of (AddBoard board)) passed).0
+  boards-within (AddUser user) passed h = h
+  boards-within _ passed h = h
+
+  addresses-within : (e : OfficeEntry) → limit_passed k e ≡ None → is_passed k limit.Addresses ≡ false → is_passed (after_entry k e) limit.Addresses ≡ false
+  addresses-within (AddUser user) passed h = (none-found (would_pass k (AddUser user)) (limits_of (AddUser user)) passed).1.0
+  addresses-within (TakeAddress address user mailbox) passed h = (none-found (would_pass k (TakeAddress address user mailbox)) (limits_of (TakeAddress address user mailbox)) passed).0
+  addresses-within (DropAddress address) passed h = not-more MOST_ADDRESSES (length k.addresses) (length (other_names address k.addresses)) (length-filter-le (λ other. not (same address other)) k.addresses) h
+  addresses-within (AddBoard board) passed h = h
+  addresses-within _ passed h = h
+
+  -- no user has more than before
+  fewer-users : (noted : List ℕ → ℕ) → list_any (λ user. are_too_many (k.waiting user)) k.users ≡ false → list_any (λ user. are_too_many (filter (is_past (noted user)) (k.waiting user ++ []))) k.users ≡ false
+  fewer-users noted h = list_any-weaker (λ user. are_too_many (k.waiting user)) (λ user. are_too_many (filter (is_past (noted user)) (k.waiting user ++ []))) k.users (λ user g. fewer-mails (noted user) (k.waiting user) g) h
+
+  waiting-within : (e : OfficeEntry) → is_allowed k e ≡ true → limit_passed k e ≡ None → is_passed k limit.Waiting ≡ false → is_passed (after_entry k e) limit.Waiting ≡ false
+  waiting-within e allowed passed h = by_entry e allowed passed
+    where
+      parts : (list_any (λ user. are_too_many (k.waiting user)) k.users ≡ false) × (nat_lt LAST_MAIL k.accepted ≡ false)
+      parts = or_parts (list_any (λ user. are_too_many (k.waiting user)) k.users) (nat_lt LAST_MAIL k.accepted) h
+
+      by_entry : (e' : OfficeEntry) → is_allowed k e' ≡ true → limit_passed k e' ≡ None → is_passed (after_entry k e') limit.Waiting ≡ false
+      by_entry (Accept names message) allowed' passed' = (none-found (would_pass k (Accept names message)) (limits_of (Accept names message)) passed').1.0
+      by_entry (Pulled by number) allowed' passed' = λ i. fewer-users (λ user. cond (same by user) number (k.noted user)) parts.0 i || parts.1 i
+      by_entry (AddUser user) allowed' passed' =
+          let none = knows.nothing user (is_free-parts k user allowed').0 in
+          let q = λ (name : List ℕ). are_too_many (filter (is_past (k.noted name)) (k.waiting name ++ [])) in
+          let last : q user ≡ false = ap (λ mails. are_too_many (filter (is_past (k.noted user)) (mails ++ []))) none in
+          (λ i. list_any-append q k.users (user ∷ []) i || nat_lt LAST_MAIL k.accepted)
+          ∙ (λ i. (fewer-users k.noted parts.0 i || (last i || false)) || parts.1 i)
+      by_entry (AddBoard board) allowed' passed' = λ i. fewer-users k.noted parts.0 i || parts.1 i
+      by_entry _ allowed' passed' = λ i. fewer-users k.noted parts.0 i || parts.1 i
+
+  board-within : (e : OfficeEntry) → is_allowed k e ≡ true → limit_passed k e ≡ None → is_passed k limit.Board ≡ false → is_passed (after_entry k e) limit.Board ≡ false
+  board-within e allowed passed h = by_entry e allowed passed
+    where
+      same_boards : (list_any (λ name. nat_lt MOST_BOARD_MESSAGES (length (k.messages name ++ []))) k.boards || nat_lt MOST_BOARD_WEIGHT (total (λ name. total weight_of (k.messages name ++ [])) k.boards)) ≡ false
+      same_boards = (λ i. list_any (λ name. nat_lt MOST_BOARD_MESSAGES (length (append-nil (k.messages name) i))) k.boards || nat_lt MOST_BOARD_WEIGHT (total (λ name. total weight_of (append-nil (k.messages name) i)) k.boards)) ∙ h
+
+      by_entry : (e' : OfficeEntry) → is_allowed k e' ≡ true → limit_passed k e' ≡ None → is_passed (after_entry k e') limit.Board ≡ false
+      by_entry (Accept names message) allowed' passed' = (none-found (would_pass k (Accept names message)) (limits_of (Accept names message)) passed').1.1.0
+      by_entry (AddBoard board) allowed' passed' =
+          let parts = or_parts (list_any (λ name. nat_lt MOST_BOARD_MESSAGES (length (k.messages name ++ []))) k.boards) (nat_lt MOST_BOARD_WEIGHT (total (λ name. total weight_of (k.messages name ++ [])) k.boards)) same_boards in
+          let none = knows.blank board (is_free-parts k board allowed').1 in
+          let q = λ (name : List ℕ). nat_lt MOST_BOARD_MESSAGES (length (k.messages name ++ [])) in
+          let w = λ (name : List ℕ). total weight_of (k.messages name ++ []) in
+          let last : q board ≡ false = ap (λ (messages : List (List (List ℕ))). nat_lt MOST_BOARD_MESSAGES (length (messages ++ []))) none in
+          let nothing : w board ≡ 0 = ap (λ (messages : List (List (List ℕ))). total weight_of (messages ++ [])) none in
+          let same_weight : total w (k.boards ++ board ∷ []) ≡ total w k.boards = omega (arith, total-append w k.boards (board ∷ []), nothing) in
+          (λ i. list_any-append q k.boards (board ∷ []) i || nat_lt MOST_BOARD_WEIGHT (same_weight i))
+          ∙ (λ i. (parts.0 i || (last i || false)) || parts.1 i)
+      by_entry (AddUser user) allowed' passed' = same_boards
+      by_entry _ allowed' passed' = same_boards
+
+  pub within-after : (e : OfficeEntry) → is_allowed k e ≡ true → limit_passed k e ≡ None → IsWithin k limits_of_bases → IsWithin (after_entry k e) limits_of_bases
+  within-after e allowed passed h = (users-within e passed h.0, (boards-within e passed h.1.0, (addresses-within e passed h.1.1.0, (waiting-within e allowed passed h.1.1.1.0, (board-within e allowed passed h.1.1.1.1.0, tt)))))
+
+pub IsWithin-legal : (h : History) → IsLegal h → IsWithin (known h) limits_of_bases
+IsWithin-legal (start r number) legal = legal.within
+IsWithin-legal (h ▹ e) legal = within-after (known h) (KnowsNames-legal h legal.0) e legal.1 legal.2 (IsWithin-legal h legal.0)
+
+-- the record of a legal history is canonical
+pub IsCanonical-legal : (h : History) → IsLegal h → IsCanonical (record_of h)
+IsCanonical-legal h legal = let stands = Stands-legal h legal in record { well_formed = stands.formed; within = subst (λ k. IsWithin k limits_of_bases) stands.alike (IsWithin-legal h legal) }
