@@ -21,12 +21,13 @@ pub fn house(alloc: Global, failing: u32) -> Result<Single<MemoryDisk>, Fail> {
     if store.is_broken() {
         return Err("whole".into());
     }
-    let mut desk = Desk::new(alloc, ann()?, store);
+    let user = ann()?;
+    let mut desk = Desk::new(alloc, user, store);
     if failing > 0 {
         desk.fail_at(failing);
     }
     let mut desks = Vec::new(alloc);
-    desks.push((ann()?, desk))?;
+    desks.push((user, desk))?;
     Ok(Single::new(desks))
 }
 

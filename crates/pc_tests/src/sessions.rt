@@ -57,7 +57,7 @@ fn the_longest_line(rt: HostRuntime) -> Result<(), Fail> {
     let mut session = Session::new(rt.alloc());
     let mut line = Vec::new(rt.alloc());
     line.extend_from_slice(b"SEND-VERSION 1")?;
-    while line.len() < 512 {
+    for _ in line.len()..512 {
         line.push(b' ')?;
     }
     say(
