@@ -8,6 +8,7 @@ mod asking;
 mod attending;
 mod changing;
 mod conversing;
+pub mod laws;
 mod logging_in;
 mod needs;
 mod receipts;
