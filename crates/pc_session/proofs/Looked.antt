@@ -1,12 +1,10 @@
 -- What an answer looks at of a desk.
-use Rattle.std.proofs.Common.{◌≡◌, ℕ, List, Option, refl, ◌∙◌}
-use Rattle.pc_history.specs.History.{History}
+use Rattle.std.proofs.Common.{◌≡◌, ℕ, List, refl, ◌∙◌}
 use Rattle.pc_request.specs.declared.request.Request.{Request}
 use Rattle.pc_request.specs.declared.request.Request.TheVariants as request
-use Rattle.pc_session.specs.declared.access.Latest.{Latest}
 use Rattle.pc_session.specs.declared.state.SessionState.{SessionState}
 use Rattle.pc_session.specs.Desk.{DeskState}
-use Rattle.pc_session.specs.Repository.{Outcome, answer_in_box, answer_of, in_box}
+use Rattle.pc_session.specs.Repository.{answer_in_box, answer_of, in_box}
 
 -- a desk with what is looked at of another
 abbrev seen_of : DeskState → DeskState → DeskState

@@ -12,7 +12,6 @@ use Rattle.pc_account.specs.Digest.{digest_of}
 use Rattle.pc_account.specs.Plan.{planned}
 use Rattle.pc_account.specs.declared.answer.Answer.{Answer}
 use Rattle.pc_account.specs.declared.answer.Answer.TheVariants as answer
-use Rattle.pc_account.specs.declared.answer.Question.{Question}
 use Rattle.pc_account.specs.declared.answer.Question.TheVariants as question
 use Rattle.pc_account.specs.declared.wish.Wish.{Wish}
 use Rattle.pc_account.specs.declared.wish.Wish.TheVariants as wish
@@ -28,7 +27,7 @@ use Rattle.pc_session.specs.declared.receipts.Receipt.{Receipt}
 use Rattle.pc_session.specs.declared.state.SessionState.{SessionState}
 use Rattle.pc_session.specs.Answering.{AnswersAlone, Comes, Concludes, OnDevice}
 use Rattle.pc_session.specs.Desk.{DeskState, LAST_SESSION, has_room}
-use Rattle.pc_session.specs.Repository.{Outcome, answer_alone, answer_in_box, answer_of, asks, carried, changes, enters, headed, is_live, knows, logs_in, logs_in_knowing, makes_client, plain, refused, replied, selects, sets_password, takes_away, tells, told, unless_drawn}
+use Rattle.pc_session.specs.Repository.{Outcome, answer_alone, answer_in_box, answer_of, asks, carried, changes, enters, headed, is_live, knows, logs_in, logs_in_knowing, makes_client, plain, refused, selects, sets_password, takes_away, tells, told, unless_drawn}
 use Rattle.pc_session.specs.States.{client_of, needs_of, refusal_by, user_of}
 
 -- another head

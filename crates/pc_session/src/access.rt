@@ -5,7 +5,7 @@ ghost use Rattle.pc_holdings.specs.State.{StandsFor};
 ghost use Rattle.pc_records.specs.Legal.{accepts};
 ghost use Rattle.pc_spelling.specs.EntryForm.{entry_fits};
 ghost use Rattle.pc_store.specs.Commit.{OnDevice};
-ghost use Rattle.pc_session.specs.Desk.{DeskState, Commits, Opens, Released, Same, Takes, entry_at, room_of};
+ghost use Rattle.pc_session.specs.Desk.{DeskState, Commits, Opens, Released, Takes, entry_at, room_of};
 
 use pc_account::Account;
 use pc_base::{Name, Room};
