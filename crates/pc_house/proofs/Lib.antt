@@ -1,6 +1,7 @@
 pub mod Commits
 pub mod Drawing
 pub mod Ended
+pub mod Enrolments
 pub mod Opens
 pub mod Rooms
 pub mod Singles

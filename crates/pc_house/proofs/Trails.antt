@@ -1,13 +1,14 @@
 -- Histories as a base and the list of entries behind it.
-use Rattle.std.proofs.Common.{◌≡◌, ℕ, zero, suc, ◌+◌, ◌<◌, ◌≤◌, ◌==◌, true, false, nat_lt, List, [], ◌∷◌, ◌++◌, length, map, slice_get, Option, None, Some, MatchOption, IfSome, is_some, get_or, refl, sym, ap, ◌∙◌, if◌then◌else◌, arith}
+use Rattle.std.proofs.Common.{◌≡◌, ℕ, zero, suc, ◌+◌, ◌<◌, ◌==◌, true, false, nat_lt, List, [], ◌∷◌, ◌++◌, length, map, slice_get, Option, None, Some, MatchOption, IfSome, is_some, get_or, refl, sym, ap, ◌∙◌, if◌then◌else◌, arith}
 use Rattle.std.specs.Borrow.{Bor}
 use Rattle.std.proofs.lemmas.Bool.{ltb-true, ltb-false}
 use Rattle.std.proofs.lemmas.Option.{slice_get_past, slice_get_read}
 use Rattle.pc_history.specs.declared.entry.Entry.{Entry}
-use Rattle.pc_history.specs.History.{History, start, ◌▸◌, ◌▸▸◌, next}
+use Rattle.pc_history.specs.History.{History, ◌▸◌, ◌▸▸◌, next}
 use Rattle.pc_spelling.specs.Spelling.{spelled_entry}
 use Rattle.pc_log.specs.Area.{bytes_of}
 use Rattle.pc_session.specs.Desk.{trail_count, trail_bytes, entry_at}
+use Rattle.pc_session.proofs.Kept.{none_ahead}
 
 -- one entry more
 pub ▸▸-push : (h : History) (trail : List Entry) (e : Entry) → (h ▸▸ (trail ++ e ∷ [])) ≡ ((h ▸▸ trail) ▸ e)
@@ -25,14 +26,6 @@ trail_count-▸▸ h (x ∷ trail) = omega (arith, trail_count-▸▸ (h ▸ x) 
 pub trail_bytes-▸▸ : (h : History) (trail : List Entry) → trail_bytes (h ▸▸ trail) ≡ trail_bytes h + bytes_of (map spelled_entry trail)
 trail_bytes-▸▸ h [] = omega arith
 trail_bytes-▸▸ h (x ∷ trail) = omega (arith, trail_bytes-▸▸ (h ▸ x) trail)
-
--- no entry has a number yet to come
-none_ahead : (h : History) (at : ℕ) → next h ≤ at → entry_at h at ≡ None
-none_ahead (start r number) at ahead = refl
-none_ahead (h ▸ e) at ahead =
-    let other : (at == next h) ≡ false = grind arith in
-    let before : next h ≤ at = omega (arith, ahead) in
-    ap (λ b. if b then Some e else entry_at h at) other ∙ none_ahead h at before
 
 -- an entry of the history in front is the same
 pub entry_at-front : (h : History) (trail : List Entry) (at : ℕ) → at < next h → entry_at (h ▸▸ trail) at ≡ entry_at h at

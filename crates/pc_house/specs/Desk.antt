@@ -41,6 +41,14 @@ told_by faults desk = record {
   faults = faults desk.store.disk;
 }
 
+-- a device call of the disk from now on is to fail, where the disk tells which do
+abbrev pub FailsAhead : {D : Type 0} → Type 0 → (D → ℕ) → (D → ℕ → Type 0) → D → Type 0
+FailsAhead tells_due moment due disk = tells_due → (at : ℕ) × ((moment disk ≤ at) × due disk at)
+
+-- the same of the disk of a desk
+abbrev pub DeskFails : {D : Type 0} → Type 0 → (D → ℕ) → (D → ℕ → Type 0) → DeskValue D → Type 0
+DeskFails tells_due moment due desk = FailsAhead tells_due moment due desk.store.disk
+
 -- the entry fits its fields
 abbrev pub Fits : Entry → Type 0
 Fits entry = IsTrue (entry_fits entry)

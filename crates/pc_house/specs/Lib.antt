@@ -1,5 +1,6 @@
 pub mod Asking
 pub mod Base
 pub mod Desk
+pub mod Enrolling
 pub mod Sessions
 pub mod Single

@@ -18,13 +18,15 @@ use std::alloc::Global;
 const LAST_SESSION: u64 = 9_223_372_036_854_775_807;
 
 impl<D: Disk + Drop> DeskAccess for Desk<D> {
-    ghost use Rattle.pc_house.specs.Desk.{told_by};
+    ghost use Rattle.pc_house.specs.Desk.{DeskFails, told_by};
 
     ghost tells = { D.tells };
 
     ghost user = { λ desk. desk.user };
 
     ghost told = { told_by D.faults };
+
+    ghost fails = { DeskFails D.tells_due D.moment D.due };
 
     fn account(&self) -> &Account {
         self.store.state()

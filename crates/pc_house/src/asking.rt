@@ -2,6 +2,8 @@
 
 ghost use Rattle.std.specs.Prelude.{◌≡◌, false};
 ghost use Rattle.pc_house.specs.Asking.{AsksDesk, ReachesOnly};
+ghost use Rattle.pc_house.specs.Desk.{DeskFails};
+ghost use Rattle.pc_reply.specs.declared.head.Head.TheVariants as head;
 ghost use Rattle.pc_request.specs.Request.{IsWritable};
 ghost use Rattle.pc_session.specs.States.{reach_of};
 ghost use Rattle.pc_session.specs.Turn.{Heard};
@@ -21,6 +23,10 @@ impl<D: Disk + Drop> Desk<D> {
         requires reach { ReachesOnly self.old.user (reach_of session.old.state request.now) }
         ensures asked { AsksDesk D.tells D.faults (reach_of session.old.state request.now) request.now self.old session.old result self.new session.new }
         ensures heard { Heard request.now false result session.old session.new }
+
+        // Where the store wasn't broken, 501 comes only where a device call was to fail.
+        ensures device { self.old.store.broken ≡ false → result.head ≡ head.DeviceFailed → DeskFails D.tells_due D.moment D.due self.old }
+        ensures ahead { DeskFails D.tells_due D.moment D.due self.new → DeskFails D.tells_due D.moment D.due self.old }
         ensures user { self.new.user ≡ self.old.user }
     {
         match session.reach(request) {

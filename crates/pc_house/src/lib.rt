@@ -4,6 +4,8 @@
 mod access;
 mod asking;
 mod desk;
+mod enrolling;
+pub mod laws;
 mod sessions;
 mod single;
 

@@ -4,6 +4,9 @@ pub mod Coming
 pub mod Connections
 pub mod Entering
 pub mod Heard
+pub mod Kept
+pub mod Looked
 pub mod Pieces
+pub mod Served
 pub mod Turns
 pub mod Words

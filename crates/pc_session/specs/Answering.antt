@@ -44,6 +44,14 @@ head_of_failure Memory = head.WantOfMemory
 head_of_failure Device = head.DeviceFailed
 head_of_failure (Missing number) = head.ChangeMissing number
 
+-- the disk failed
+abbrev pub OnDevice : {T : Type 0} → Result T Failure → Type 0 → Type 0
+OnDevice (Ok value) holds = ⊤
+OnDevice (Err (Refused why)) holds = ⊤
+OnDevice (Err Memory) holds = ⊤
+OnDevice (Err Device) holds = holds
+OnDevice (Err (Missing number)) holds = ⊤
+
 -- the outcome came to pass, or was refused, or wanted memory, or the disk failed
 abbrev pub Comes : List ℕ → Outcome → DeskState → SessionState → List Receipt → Result Answered Failure → DeskState → List Receipt → Type 0
 Comes user o old s receipts (Ok answered) new after = (answered.reply ≡ o.reply) × (answered.heard ≡ o.reply) × (moved s answered.then ≡ o.session) × Done o old new × (after ≡ receipts_after user old o receipts)

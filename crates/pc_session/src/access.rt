@@ -4,7 +4,8 @@ ghost use Rattle.std.specs.Prelude.{◌≡◌, ℕ, ◌≤◌, List, true, false
 ghost use Rattle.pc_holdings.specs.State.{StandsFor};
 ghost use Rattle.pc_records.specs.Legal.{accepts};
 ghost use Rattle.pc_spelling.specs.EntryForm.{entry_fits};
-ghost use Rattle.pc_session.specs.Desk.{DeskState, Commits, Opens, Released, Same, Takes, entry_at, room_of};
+ghost use Rattle.pc_store.specs.Commit.{OnDevice};
+ghost use Rattle.pc_session.specs.Desk.{DeskState, Commits, Opens, Released, Takes, entry_at, room_of};
 
 use pc_account::Account;
 use pc_base::{Name, Room};
@@ -43,6 +44,9 @@ pub trait DeskAccess {
     /// What it holds.
     ghost told: { Self → DeskState };
 
+    /// Whether a device call of its disk from now on is to fail, where the disk tells which do.
+    ghost fails: { Self → Type 0 };
+
     /// The account.
     fn account(&self) -> &Account
         requires { (told self.now).broken ≡ false }
@@ -58,6 +62,8 @@ pub trait DeskAccess {
         requires whole { (told self.old).broken ≡ false }
         requires accepted { accepts (told self.old).state entry ≡ true }
         ensures commits { Commits entry (told self.old) result (told self.new) }
+        ensures device { OnDevice result (fails self.old) }
+        ensures ahead { fails self.new → fails self.old }
         ensures faults { (told self.old).faults ≤ (told self.new).faults }
         ensures user { user self.new ≡ user self.old };
 
@@ -69,6 +75,7 @@ pub trait DeskAccess {
     /// Opens the store again.
     fn mend(&mut self, alloc: Global) -> Result<(), StoreFault>
         ensures opens { Opens tells (told self.old) result (told self.new) }
+        ensures ahead { fails self.new → fails self.old }
         ensures faults { (told self.old).faults ≤ (told self.new).faults }
         ensures user { user self.new ≡ user self.old };
 
@@ -88,12 +95,14 @@ pub trait DeskAccess {
     /// Draws the next session number for a client, whose latest session it then is.
     fn take_over(&mut self, client: Name, batch: bool) -> Result<u64, TakeFault>
         ensures takes { Takes client batch (told self.old) result (told self.new) }
+        ensures ahead { fails self.new → fails self.old }
         ensures faults { (told self.old).faults ≤ (told self.new).faults }
         ensures user { user self.new ≡ user self.old };
 
     /// The session of this number has ended.
     fn release(&mut self, client: Name, number: u64)
         ensures released { Released client number (told self.old) (told self.new) }
+        ensures ahead { fails self.new → fails self.old }
         ensures faults { (told self.old).faults ≤ (told self.new).faults }
         ensures user { user self.new ≡ user self.old };
 }

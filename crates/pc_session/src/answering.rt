@@ -2,7 +2,7 @@
 
 ghost use Rattle.std.specs.Prelude.{◌≡◌, ◌≤◌, false, None};
 ghost use Rattle.pc_request.specs.Request.{IsWritable};
-ghost use Rattle.pc_session.specs.Answering.{AnswersAlone, Comes};
+ghost use Rattle.pc_session.specs.Answering.{AnswersAlone, Comes, OnDevice};
 ghost use Rattle.pc_session.specs.Repository.{answer_alone, answer_of};
 ghost use Rattle.pc_session.specs.Tasks.{WishesRightly, outcome_of};
 
@@ -58,6 +58,8 @@ pub(crate) fn answer<K: DeskAccess>(
     requires user { user.now ≡ K.user desk.old }
     requires writable { IsWritable request.now }
     ensures comes { Comes user.now (answer_of (K.told desk.old) state.now request.now) (K.told desk.old) state.now receipts.old result (K.told desk.new) receipts.new }
+    ensures device { OnDevice result (K.fails desk.old) }
+    ensures ahead { K.fails desk.new → K.fails desk.old }
     ensures faults { (K.told desk.old).faults ≤ (K.told desk.new).faults }
     ensures user { K.user desk.new ≡ K.user desk.old }
 {
@@ -78,6 +80,8 @@ fn carry_out<K: DeskAccess>(
     requires user { user.now ≡ K.user desk.old }
     requires wish { WishesRightly task }
     ensures comes { Comes user.now (outcome_of (K.told desk.old) state.now task) (K.told desk.old) state.now receipts.old result (K.told desk.new) receipts.new }
+    ensures device { OnDevice result (K.fails desk.old) }
+    ensures ahead { K.fails desk.new → K.fails desk.old }
     ensures faults { (K.told desk.old).faults ≤ (K.told desk.new).faults }
     ensures user { K.user desk.new ≡ K.user desk.old }
 {

@@ -60,6 +60,7 @@ fn superseded<K: DeskAccess>(desk: &K, who: &Who) -> Option<Refusal>
 /// the store any more.
 pub(crate) fn open<K: DeskAccess>(alloc: Global, desk: &mut K, number: u64) -> Result<(), Failure>
     ensures opens { OpensOr K.tells number (K.told desk.old) result (K.told desk.new) }
+    ensures ahead { K.fails desk.new → K.fails desk.old }
     ensures faults { (K.told desk.old).faults ≤ (K.told desk.new).faults }
     ensures user { K.user desk.new ≡ K.user desk.old }
 {
@@ -149,6 +150,8 @@ impl Session {
         requires writable { IsWritable request.now }
         ensures attended { Attended user.now request.now (K.told desk.old) self.old result (K.told desk.new) self.new }
         ensures heard { Heard request.now false result self.old self.new }
+        ensures device { result.head ≡ head.DeviceFailed → K.fails desk.old }
+        ensures ahead { K.fails desk.new → K.fails desk.old }
         ensures faults { (K.told desk.old).faults ≤ (K.told desk.new).faults }
         ensures user { K.user desk.new ≡ K.user desk.old }
     {

@@ -6,7 +6,7 @@ ghost use Rattle.pc_holdings.specs.State.{said};
 ghost use Rattle.pc_records.specs.Legal.{accepts};
 ghost use Rattle.pc_spelling.specs.EntryForm.{entry_fits};
 ghost use Rattle.pc_spelling.specs.Spelling.{spelled_entry};
-ghost use Rattle.pc_session.specs.Answering.{Comes, Makes};
+ghost use Rattle.pc_session.specs.Answering.{Comes, Makes, OnDevice};
 ghost use Rattle.pc_session.specs.Repository.{as_user, changes, sets_password, takes_away};
 ghost use Rattle.pc_session.specs.declared.answered.Failure.TheVariants as failure;
 
@@ -36,6 +36,8 @@ pub(crate) fn change<K: DeskAccess>(
     requires user { user.now ≡ K.user desk.old }
     requires wish { IsWish (said (K.told desk.old).state) wish.now }
     ensures comes { Comes user.now (changes (K.told desk.old) state.now wish.now) (K.told desk.old) state.now receipts.old result (K.told desk.new) receipts.new }
+    ensures device { OnDevice result (K.fails desk.old) }
+    ensures ahead { K.fails desk.new → K.fails desk.old }
     ensures faults { (K.told desk.old).faults ≤ (K.told desk.new).faults }
     ensures user { K.user desk.new ≡ K.user desk.old }
 {
@@ -58,6 +60,8 @@ pub(crate) fn take_away<K: DeskAccess>(
     requires doubt { (K.told desk.old).doubt ≡ None }
     requires user { user.now ≡ K.user desk.old }
     ensures comes { Comes user.now (takes_away (K.told desk.old) state.now client.now) (K.told desk.old) state.now receipts.old result (K.told desk.new) receipts.new }
+    ensures device { OnDevice result (K.fails desk.old) }
+    ensures ahead { K.fails desk.new → K.fails desk.old }
     ensures faults { (K.told desk.old).faults ≤ (K.told desk.new).faults }
     ensures user { K.user desk.new ≡ K.user desk.old }
 {
@@ -85,6 +89,8 @@ pub(crate) fn set_password<K: DeskAccess>(
     requires doubt { (K.told desk.old).doubt ≡ None }
     requires user { user.now ≡ K.user desk.old }
     ensures comes { Comes user.now (as_user state.now (λ owner. sets_password (K.told desk.old) state.now owner present.now next.now)) (K.told desk.old) state.now receipts.old result (K.told desk.new) receipts.new }
+    ensures device { OnDevice result (K.fails desk.old) }
+    ensures ahead { K.fails desk.new → K.fails desk.old }
     ensures faults { (K.told desk.old).faults ≤ (K.told desk.new).faults }
     ensures user { K.user desk.new ≡ K.user desk.old }
 {
@@ -113,6 +119,8 @@ pub(crate) fn make<K: DeskAccess>(
     requires user { user.now ≡ K.user desk.old }
     requires accepted { accepts (K.told desk.old).state entry ≡ true }
     ensures makes { Makes user.now entry (K.told desk.old) receipts.old result (K.told desk.new) receipts.new }
+    ensures device { OnDevice result (K.fails desk.old) }
+    ensures ahead { K.fails desk.new → K.fails desk.old }
     ensures faults { (K.told desk.old).faults ≤ (K.told desk.new).faults }
     ensures user { K.user desk.new ≡ K.user desk.old }
 {

@@ -265,7 +265,8 @@ fn request_of(line: &[u8]) -> Result<Request, Refusal>
     }
 }
 
-fn refusal_of(fault: &RequestFault) -> Refusal
+/// The refusal that tells what is wrong with a request line.
+pub fn refusal_of(fault: &RequestFault) -> Refusal
     ensures { result ≡ refusal fault.now }
 {
     match fault {

@@ -8,6 +8,7 @@ mod asking;
 mod attending;
 mod changing;
 mod conversing;
+pub mod laws;
 mod logging_in;
 mod needs;
 mod receipts;
@@ -18,7 +19,7 @@ mod state;
 mod task;
 
 pub use access::{DeskAccess, Latest, TakeFault};
-pub use conversing::{Cause, Ended, answer_line, converse};
+pub use conversing::{Cause, Ended, answer_line, converse, refusal_of};
 pub use needs::Needs;
 pub use receipts::{Receipt, Receipts};
 pub use repository::Repository;

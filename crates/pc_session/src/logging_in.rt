@@ -5,7 +5,7 @@ ghost use Rattle.pc_history.specs.History.{known};
 ghost use Rattle.pc_account.specs.Plan.{planned};
 ghost use Rattle.pc_account.specs.declared.wish.Wish.TheVariants as wish;
 ghost use Rattle.pc_records.specs.Legal.{accepts};
-ghost use Rattle.pc_session.specs.Answering.{Comes, Draws, PlansClient};
+ghost use Rattle.pc_session.specs.Answering.{Comes, Draws, OnDevice, PlansClient};
 ghost use Rattle.pc_session.specs.Desk.{has_room};
 ghost use Rattle.pc_reply.specs.declared.head.Head.TheVariants as head;
 ghost use Rattle.pc_spelling.specs.EntryForm.{entry_fits};
@@ -53,6 +53,8 @@ pub(crate) fn log_in<K: DeskAccess>(
     requires doubt { (K.told desk.old).doubt ≡ None }
     requires user { user.now ≡ K.user desk.old }
     ensures comes { Comes user.now (logs_in_knowing (K.told desk.old) state.now login.now.user login.now.password login.now.client login.now.create login.now.batch) (K.told desk.old) state.now receipts.old result (K.told desk.new) receipts.new }
+    ensures device { OnDevice result (K.fails desk.old) }
+    ensures ahead { K.fails desk.new → K.fails desk.old }
     ensures faults { (K.told desk.old).faults ≤ (K.told desk.new).faults }
     ensures user { K.user desk.new ≡ K.user desk.old }
 {
@@ -79,6 +81,8 @@ fn enter<K: DeskAccess>(
     requires whole { (K.told desk.old).broken ≡ false }
     requires doubt { (K.told desk.old).doubt ≡ None }
     ensures comes { (user : List ℕ) (s : SessionState) (receipts : List Receipt) → Comes user (unless_drawn (K.told desk.old) s (enters (K.told desk.old) login.now.user login.now.client login.now.batch birth None)) (K.told desk.old) s receipts result (K.told desk.new) receipts }
+    ensures device { OnDevice result (K.fails desk.old) }
+    ensures ahead { K.fails desk.new → K.fails desk.old }
     ensures faults { (K.told desk.old).faults ≤ (K.told desk.new).faults }
     ensures user { K.user desk.new ≡ K.user desk.old }
 {
@@ -101,6 +105,7 @@ fn entered(alloc: Global, login: &Login, birth: u64, number: u64) -> Answered
 // Draws the next session number for the client.
 fn draw<K: DeskAccess>(desk: &mut K, login: &Login) -> Result<u64, Failure>
     ensures draws { Draws login.now.client login.now.batch (K.told desk.old) result (K.told desk.new) }
+    ensures ahead { K.fails desk.new → K.fails desk.old }
     ensures faults { (K.told desk.old).faults ≤ (K.told desk.new).faults }
     ensures user { K.user desk.new ≡ K.user desk.old }
 {
@@ -127,6 +132,8 @@ fn make_client<K: DeskAccess>(
     requires doubt { (K.told desk.old).doubt ≡ None }
     requires user { user.now ≡ K.user desk.old }
     ensures comes { Comes user.now (unless_drawn (K.told desk.old) state.now (makes_client (K.told desk.old) state.now login.now.user login.now.client login.now.batch (planned (known (K.told desk.old).history) (wish.MakeClient login.now.client)))) (K.told desk.old) state.now receipts.old result (K.told desk.new) receipts.new }
+    ensures device { OnDevice result (K.fails desk.old) }
+    ensures ahead { K.fails desk.new → K.fails desk.old }
     ensures faults { (K.told desk.old).faults ≤ (K.told desk.new).faults }
     ensures user { K.user desk.new ≡ K.user desk.old }
 {

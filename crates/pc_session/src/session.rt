@@ -92,6 +92,7 @@ impl Session {
     pub fn alone(&mut self, alloc: Global, request: &Request) -> Reply
         requires { reach_of self.old.state request.now ≡ reach.Nobody }
         ensures reply { Replies (answer_alone self.old.state request.now) result }
+        ensures device { result.head ≡ head.DeviceFailed → ⊥ }
         ensures heard { Heard request.now false result self.old self.new }
         ensures keeps { Keeps self.old self.new }
     {
@@ -122,6 +123,10 @@ impl Session {
         requires writable { IsWritable request.now }
         ensures turn { Turn K.tells (K.user desk.old) request.now (K.told desk.old) self.old result (K.told desk.new) self.new }
         ensures heard { Heard request.now false result self.old self.new }
+
+        // Where the store wasn't broken, 501 comes only where a device call was to fail.
+        ensures device { (K.told desk.old).broken ≡ false → result.head ≡ head.DeviceFailed → K.fails desk.old }
+        ensures ahead { K.fails desk.new → K.fails desk.old }
         ensures faults { (K.told desk.old).faults ≤ (K.told desk.new).faults }
         ensures user { K.user desk.new ≡ K.user desk.old }
     {
@@ -142,6 +147,7 @@ impl Session {
         requires { user_of self.old.state.who ≡ Some (K.user desk.old) }
         ensures ends { EndsAt self.old.state.who (K.told desk.old) (K.told desk.new) }
         ensures same { self.new ≡ self.old }
+        ensures ahead { K.fails desk.new → K.fails desk.old }
         ensures faults { (K.told desk.old).faults ≤ (K.told desk.new).faults }
         ensures user { K.user desk.new ≡ K.user desk.old }
     {
