@@ -1,0 +1,17 @@
+//! The post office: users, addresses, boards, and the mail that waits.
+#![tactic(auto)]
+
+mod allowing;
+mod boards;
+mod holdings;
+mod limits;
+mod office;
+mod planning;
+mod telling;
+#[cfg(test)]
+mod tests;
+mod users;
+mod wish;
+
+pub use office::Office;
+pub use wish::OfficeWish;
