@@ -85,6 +85,9 @@ numbered k names message h =
       | inr over ↦ absurd (true≢false (sym (lt-ltb LAST_MAIL (suc count) (omega (arith, over))) ∙ e))
     ]
 
+all-four : (a b c d : Bool) → a ≡ true → b ≡ true → c ≡ true → d ≡ true → (a && b && c && d) ≡ true
+all-four a b c d first second third fourth = rw (first, second, third) fourth
+
 -- a message that is sent
 sent-follows : (k : Known) (message : List (List ℕ)) (told : OfficeEntry) → Tells (sent k message) (Ok told) → may_follow k told ≡ true
 sent-follows k message told h =
@@ -95,14 +98,14 @@ sent-follows k message told h =
     ] refl h
   where
     known_names : (names : List (List ℕ)) → 0 < length names → are_apart names ≡ true → (found : Option (List ℕ)) → first_stranger k names ≡ found → Tells (option_map_or (λ name. Err (UnknownRecipient (shown_of name))) found (within_limits k (entry.Accept names message))) (Ok told) → may_follow k told ≡ true
-    known_names names some apart (Some name) found no = absurd no
+    known_names names some apart (Some name) found never = absurd never
     known_names names some apart None found rest =
         let parts = within-none k (entry.Accept names message) told rest in
         let counted : nat_lt 0 (length names) ≡ true = lt-ltb 0 (length names) some in
         let all = none-strange (is_recipient k) names found in
-        follows k (entry.Accept names message) told (and_from (nat_lt 0 (length names)) _ counted (and_from (are_apart names) _ apart (and_from (list_all (is_recipient k) names) _ all (numbered k names message parts.0)))) parts.0 parts.1
+        follows k (entry.Accept names message) told (all-four (nat_lt 0 (length names)) (are_apart names) (list_all (is_recipient k) names) (nat_lt k.accepted LAST_MAIL) counted apart all (numbered k names message parts.0)) parts.0 parts.1
     few : (names : List (List ℕ)) → unknown_of (addresses_of message) ≡ None → (many : Bool) → Tells (cond many (Err (LimitReached limit.Recipients)) (option_map_or (λ name. Err (UnknownRecipient (shown_of name))) (first_stranger k (distinct (addresses_of message))) (within_limits k (entry.Accept (distinct (addresses_of message)) message)))) (Ok told) → may_follow k told ≡ true
-    few names none true no = absurd no
+    few names none true never = absurd never
     few names none false rest = known_names (distinct (addresses_of message)) (some-distinct (addresses_of message) none) (apart-distinct (addresses_of message)) (first_stranger k (distinct (addresses_of message))) refl rest
 
 -- whatever a wish comes to, where it is an entry, may come next
