@@ -1,0 +1,6 @@
+//! Tests on rows that were worked out by hand.
+
+mod full;
+mod player;
+mod rows;
+mod words;

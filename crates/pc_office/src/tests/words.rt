@@ -1,0 +1,67 @@
+//! The words of a line, and the wishes that they spell.
+
+use crate::OfficeWish;
+use pc_base::{Line, Lines, Name, read_u32};
+use pc_message::Message;
+use std::alloc::Global;
+use std::test::Fail;
+
+/// The name at this place.
+pub fn name(words: &[&str], place: usize) -> Result<Name, Fail> {
+    let word = words.get(place).ok_or("a word more")?;
+    Ok(Name::read(word.as_bytes()).ok_or("a name")?)
+}
+
+/// The number at this place.
+pub fn number(words: &[&str], place: usize) -> Result<u32, Fail> {
+    let word = words.get(place).ok_or("a word more")?;
+    Ok(read_u32(word.as_bytes()).ok_or("a number")?)
+}
+
+/// The wish that a line spells, where it spells one.
+pub fn wish(alloc: Global, verb: &str, words: &[&str]) -> Result<Option<OfficeWish>, Fail> {
+    match verb {
+        "AddUser" => Ok(Some(OfficeWish::AddUser {
+            user: name(words, 0)?,
+        })),
+        "AddBoard" => Ok(Some(OfficeWish::AddBoard {
+            board: name(words, 0)?,
+        })),
+        "Take" => Ok(Some(OfficeWish::TakeAddress {
+            address: name(words, 0)?,
+            user: name(words, 1)?,
+            mailbox: name(words, 2)?,
+        })),
+        "Drop" => Ok(Some(OfficeWish::DropAddress {
+            address: name(words, 0)?,
+            user: name(words, 1)?,
+        })),
+        "Send" => Ok(Some(OfficeWish::Accept {
+            message: message_to(alloc, number(words, 0)?, words)?,
+        })),
+        _ => Ok(None),
+    }
+}
+
+/// A message to the items that are named from the second word on, with so many lines of 998 bytes.
+pub fn message_to(alloc: Global, count: u32, items: &[&str]) -> Result<Message, Fail> {
+    let mut lines = Lines::new(alloc);
+    let to = field(alloc, items)?;
+    lines.push(Line::copy_of(alloc, to.as_bytes())?)?;
+    lines.push(Line::copy_of(alloc, b"")?)?;
+    let text = [b'x'; 998];
+    for _ in 0..count {
+        lines.push(Line::copy_of(alloc, &text)?)?;
+    }
+    Ok(Message::of(lines).ok().ok_or("a message")?)
+}
+
+/// The field that names the items from the second word on.
+fn field(alloc: Global, items: &[&str]) -> Result<String, Fail> {
+    let mut text = String::from_str(alloc, "To:")?;
+    for item in items.iter().skip(1) {
+        text.push(' ')?;
+        text.push_str(item)?;
+    }
+    Ok(text)
+}
