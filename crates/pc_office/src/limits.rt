@@ -140,6 +140,7 @@ fn has_room(standing: &Standing, weight: u32) -> bool
 /// Whether one of the boards among the names has no place, or all boards have no room.
 fn boards_are_full(holdings: &Holdings, names: &[Name], weight: u32) -> bool
     requires sound { IsSound holdings.now }
+    requires few { length names.now ≤ MOST_RECIPIENTS }
     ensures { result ≡ are_full weight holdings.now names.now }
 {
     let mut more: u64 = 0;

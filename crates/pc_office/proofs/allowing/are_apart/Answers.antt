@@ -1,0 +1,14 @@
+use Rattle.std.proofs.Common.{◌∙◌, sym, ap, not, ◌&&◌}
+use Rattle.pc_office_history.specs.Allowed.{are_apart}
+use Rattle.pc_office.proofs.NamesApart.{behind, apart-step}
+use Rattle.pc_office.proofs.allowing.are_apart.Goals as goal
+
+pub returns-then-contains : goal.returns-then-contains
+returns-then-contains c =
+    let rest = c.loop-rest.rest.now in
+    sym (c.loop-rest.invariant ∙ apart-step c.name-item.result rest c.contains.result c.in-len1-up.len_at_least c.name-item.is c.contains.ensures.value ∙ ap (λ found. not found && are_apart (behind rest)) c.if-contains.true)
+
+pub loop-rest-preserved : goal.loop-rest-preserved
+loop-rest-preserved c =
+    let rest = c.loop-rest.rest.now in
+    c.loop-rest.invariant ∙ apart-step c.name-item.result rest c.contains.result c.in-len1-up.len_at_least c.name-item.is c.contains.ensures.value ∙ ap (λ found. not found && are_apart (behind rest)) c.if-contains.false
