@@ -1,5 +1,5 @@
 -- Tables that are changed at one place after the other.
-use Rattle.std.proofs.Common.{◌≡◌, ℕ, zero, suc, ◌+◌, ◌<◌, List, [], ◌∷◌, map, length, slice_get, Option, None, Some, refl, sym, ap, ◌∙◌, arith}
+use Rattle.std.proofs.Common.{◌≡◌, ℕ, zero, suc, ◌+◌, ◌<◌, List, [], ◌∷◌, map, length, slice_get, slice_index_or, Option, None, Some, refl, sym, ap, ◌∙◌, arith}
 use Rattle.std.specs.Map.{keys_of, values_of}
 use Rattle.indexmap.specs.IndexMap.{set_value_at}
 use Rattle.pc_history.specs.Table.{total}
@@ -12,6 +12,12 @@ module _ {X : Type 0} where
   item-at place [] within = absurd (omega arith)
   item-at zero (item ∷ items) within = (item, refl)
   item-at (suc place) (item ∷ items) within = item-at place items (omega arith)
+
+  -- the item of a place stands there
+  pub found-at : (items : List X) (place : ℕ) (item : X) → place < length items → item ≡ slice_index_or items place item → slice_get items place ≡ Some item
+  found-at [] place item within e = absurd (omega arith)
+  found-at (first ∷ items) zero item within e = ap Some (sym e)
+  found-at (first ∷ items) (suc place) item within e = found-at items place item (omega arith) e
 
   pub none-at : (place : ℕ) (items : List X) → place < length items → slice_get items place ≡ None → ⊥
   none-at place items within none = let found = item-at place items within in some-none found.0 (sym found.1 ∙ none)
@@ -35,6 +41,12 @@ module _ {V : Type 0} where
   entry-at [] place name value e f = absurd (some-none name (sym e))
   entry-at (entry ∷ table) zero name value e f = let key = some-same entry.0 name e in let held = some-same entry.1 value f in (λ i. Some (key i, held i))
   entry-at (entry ∷ table) (suc place) name value e f = entry-at table place name value e f
+
+  -- an entry has the name of its place
+  pub key-at : (table : List (List ℕ × V)) (place : ℕ) (entry : List ℕ × V) (name : List ℕ) → slice_get table place ≡ Some entry → slice_get (keys_of table) place ≡ Some name → entry.0 ≡ name
+  key-at [] place entry name e f = absurd (some-none entry (sym e))
+  key-at (first ∷ table) zero entry name e f = ap (λ (one : List ℕ × V). one.0) (sym (some-same first entry e)) ∙ some-same first.0 name f
+  key-at (first ∷ table) (suc place) entry name e f = key-at table place entry name e f
 
   -- an entry has the value of its place
   pub value-at : (table : List (List ℕ × V)) (place : ℕ) (entry : List ℕ × V) (value : V) → slice_get table place ≡ Some entry → slice_get (values_of table) place ≡ Some value → entry.1 ≡ value

@@ -1,9 +1,11 @@
-use Rattle.std.proofs.Common.{rules, ◌≡◌, ℕ, suc, ◌<◌, ◌^◌, List, ◌++◌, [], ◌∷◌, None, option_copied, map, length, OnOk, OnErr, ◌+◌, ◌-◌, ◌*◌, ◌≤◌, ◌/◌, ◌%◌, Bool, true, false, nat_eq, nat_lt, slice_index_or, slice_set, bit_and, bit_or, Fits, w8, w32, w64, Bor, MutBor}
-use Rattle.std.specs.Map.{lookup, keys_of}
-use Rattle.pc_history.specs.Table.{same}
-use Rattle.pc_office.specs.Held.{weight_on_all}
-use Rattle.pc_office.specs.Step.{front_mapped, posted}
+use Rattle.std.proofs.Common.{sym, ap, ◌∙◌, ◌++◌, ◌∷◌, []}
+use Rattle.std.specs.Map.{keys_of}
+use Rattle.pc_history.proofs.Tables.{keys-append}
+use Rattle.pc_office.proofs.Posts.{weighed-put}
 use Rattle.pc_office.proofs.boards.Boards.add.Goals as goal
 
 pub invariant_of-self-in-Ok-push : goal.invariant_of-self-in-Ok-push
-invariant_of-self-in-Ok-push c = ?
+invariant_of-self-in-Ok-push c = (
+  c.in-Ok-push.ensures.ok ∙ ap (λ names. names ++ c.args.board ∷ []) c.self.invariant.0 ∙ sym (ap keys_of c.in-Ok.ensures.ok ∙ keys-append c.self.inside.table.entries ((c.args.board, c.new.result) ∷ [])),
+  weighed-put c.self.inside.sum 0 c.self.inside.table.entries c.args.board c.new.result c.put.new.table.entries c.new.ensures c.in-Ok.ensures.ok c.self.invariant.1,
+)
