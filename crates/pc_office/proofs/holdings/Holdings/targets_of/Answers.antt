@@ -1,25 +1,11 @@
-use Rattle.std.proofs.Common.{rules, ◌≡◌, ◌<◌, ◌^◌, ◌-◌, [], ◌∷◌, ◌++◌, map, None, IsTrue, IfOk, OnOk, ℕ, ◌+◌, ◌*◌, ◌≤◌, length, ◌/◌, ◌%◌, Bool, true, false, nat_eq, nat_lt, List, slice_index_or, slice_set, bit_and, bit_or, Fits, w8, w32, w64, Bor, MutBor}
+use Rattle.std.proofs.Common.{◌∙◌}
 use Rattle.std.specs.Map.{lookup}
 use Rattle.pc_history.specs.Table.{same}
-use Rattle.pc_message.specs.Message.{weight_of}
-use Rattle.pc_office_history.specs.declared.entry.OfficeEntry.TheVariants as entry
-use Rattle.pc_office_history.specs.Effect.{targets_of}
-use Rattle.pc_office_history.specs.Known.{said_by}
-use Rattle.pc_office_history.specs.Record.{mails_for}
-use Rattle.pc_office_history.specs.Step.{still_waiting}
-use Rattle.pc_office.specs.Held.{nothing_held, record_in}
-use Rattle.pc_office.specs.Step.{awaited, standing_of, with_target, entered}
-use Rattle.pc_office.specs.Office.{may_follow, IsSound}
+use Rattle.pc_office.proofs.FirstTargets.{front-targets, all-targets}
 use Rattle.pc_office.proofs.holdings.Holdings.targets_of.Goals as goal
 
--- src/holdings.rt:200:9
-pub loop-name-init : goal.loop-name-init
-loop-name-init c = ?
-
--- src/holdings.rt:200:9
 pub loop-name-preserved : goal.loop-name-preserved
-loop-name-preserved c = ?
+loop-name-preserved c = front-targets (λ name. lookup (same name) c.args.self.now.addresses) c.args.names.now c.loop-name.name-index c.name-item.result c.loop-name.targets c.add_target.new.targets c.loop-name-test.true c.name-item.is c.loop-name.invariant c.in_ok-add_target.ensures
 
--- src/holdings.rt:196:5
 pub returns : goal.returns
-returns c = ?
+returns c = c.loop-name.invariant ∙ all-targets (λ name. lookup (same name) c.args.self.now.addresses) c.args.names.now c.loop-name.name-index c.loop-name-test.false
