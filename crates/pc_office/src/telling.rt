@@ -68,7 +68,7 @@ impl Office {
     {
         let mut names = Names::new(alloc);
         for (address, target) in self.holdings.addresses().iter() {
-            if target.user == *user && target.mailbox == *mailbox {
+            if *user == target.user && *mailbox == target.mailbox {
                 names.push(*address)?;
             }
         }

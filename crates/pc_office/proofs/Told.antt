@@ -1,0 +1,60 @@
+-- What is told of the mails that wait, and of a board.
+use Rattle.std.proofs.Common.{◌≡◌, ℕ, zero, suc, ◌+◌, ◌<◌, ◌≤◌, Bool, true, false, cond, nat_lt, List, [], ◌∷◌, ◌++◌, length, take, get_or, Option, None, Some, is_some, unwrap_or, option_map, refl, sym, ◌∙◌, ap, subst, arith, length-append}
+use Rattle.std.specs.List.{filter, cons_option}
+use Rattle.std.specs.Map.{lookup, keys_of}
+use Rattle.std.proofs.lemmas.List.{take_all, take_at}
+use Rattle.std.proofs.lemmas.List.Elements.{filter-append}
+use Rattle.std.proofs.Math.Seq.{take-suc}
+use Rattle.pc_message.specs.declared.lists.Mail.{Mail}
+use Rattle.pc_history.specs.Table.{same, is_among}
+use Rattle.pc_history.proofs.Tables.{is_among-keys}
+use Rattle.pc_office_history.specs.declared.kept.KeptMail.{KeptMail}
+use Rattle.pc_office_history.specs.Record.{OfficeRecord, mail_for, mails_for}
+use Rattle.pc_office_history.specs.Known.{said_by, is_past}
+use Rattle.pc_office_history.specs.Answers.{board_of}
+use Rattle.pc_office_history.proofs.Mails.{mails_for-append}
+
+-- ---- mails
+
+-- of these mails all that a user is told past a number are told, and no more than 64
+pub record AreTold (user : List ℕ) (after : ℕ) (kept : List KeptMail) (mails : List Mail) : Type 0 where
+  pub told : mails ≡ filter (is_past after) (mails_for user kept)
+  pub few : length mails ≤ 64
+
+few-past : (after : ℕ) (found : Option Mail) → length (filter (is_past after) (cons_option found [])) ≤ 1
+few-past after None = omega arith
+few-past after (Some mail) = elim (is_past after mail) as (λ b. length (cond b (mail ∷ []) []) ≤ 1) [ true ↦ omega arith | false ↦ omega arith ]
+
+-- with one mail more
+pub told-more : (user : List ℕ) (after : ℕ) (kept : List KeptMail) (index : ℕ) (mail : KeptMail) (mails new : List Mail) → index < length kept → get_or kept index mail ≡ mail → AreTold user after (take index kept) mails → length mails < 64 → new ≡ mails ++ filter (is_past after) (mails_for user (mail ∷ [])) → AreTold user after (take (suc index) kept) new
+told-more user after kept index mail mails new below is told fewer e = record {
+  told =
+    e ∙ ap (λ all. all ++ filter (is_past after) (mails_for user (mail ∷ []))) told.told
+    ∙ sym (filter-append (is_past after) (mails_for user (take index kept)) (mails_for user (mail ∷ [])))
+    ∙ ap (filter (is_past after)) (sym (mails_for-append user (take index kept) (mail ∷ [])))
+    ∙ ap (λ front. filter (is_past after) (mails_for user front)) (ap (λ one. take index kept ++ one ∷ []) (sym is) ∙ sym (take-suc kept index mail below));
+  few = rw e (omega (arith, length-append mails (filter (is_past after) (mails_for user (mail ∷ []))), few-past after (mail_for user mail)));
+}
+
+-- all are told where they are few
+pub told-all : (user : List ℕ) (after : ℕ) (kept : List KeptMail) (mails : List Mail) → AreTold user after kept mails → mails ≡ take 64 (filter (is_past after) (mails_for user kept))
+told-all user after kept mails told = told.told ∙ sym (take_all 64 (filter (is_past after) (mails_for user kept)) (subst (λ all. length all ≤ 64) told.told told.few))
+
+-- what comes behind 64 mails isn't told
+pub told-front : (user : List ℕ) (after : ℕ) (kept more : List KeptMail) (mails : List Mail) → AreTold user after kept mails → length mails ≡ 64 → mails ≡ take 64 (filter (is_past after) (mails_for user (kept ++ more)))
+told-front user after kept more mails told full = sym (
+    ap (λ all. take 64 (filter (is_past after) all)) (mails_for-append user kept more)
+    ∙ ap (take 64) (filter-append (is_past after) (mails_for user kept) (mails_for user more))
+    ∙ ap (λ front. take 64 (front ++ filter (is_past after) (mails_for user more))) (sym told.told)
+    ∙ take_at mails (filter (is_past after) (mails_for user more)) 64 full
+    )
+
+-- ---- boards
+
+-- what is said of a board is what stands in its table
+pub board-said : (r : OfficeRecord) (name : List ℕ) → board_of (said_by r) name ≡ lookup (same name) r.boards
+board-said r name = ap (λ b. cond b (Some (unwrap_or (lookup (same name) r.boards) [])) None) (is_among-keys name r.boards) ∙ found (lookup (same name) r.boards)
+  where
+    found : (o : Option (List (List (List ℕ)))) → cond (is_some o) (Some (unwrap_or o [])) None ≡ o
+    found None = refl
+    found (Some messages) = refl
