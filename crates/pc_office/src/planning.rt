@@ -41,19 +41,26 @@ impl Office {
         ensures follows { IfOk result (λ entry. IsTrue (may_follow (said_by self.now) entry)) }
         ensures memory { IsAtOnce wish.now → IsNoMemory result }
     {
-        match wish {
-            OfficeWish::AddUser { user } => add_user(&self.holdings, user),
-            OfficeWish::AddBoard { board } => add_board(&self.holdings, board),
-            OfficeWish::TakeAddress {
-                address,
-                user,
-                mailbox,
-            } => take_address(&self.holdings, address, user, mailbox),
-            OfficeWish::DropAddress { address, user } => {
-                drop_address(&self.holdings, address, user)
-            }
-            OfficeWish::Accept { message } => send(alloc, &self.holdings, message),
-        }
+        plan(alloc, &self.holdings, wish)
+    }
+}
+
+/// What a wish comes to.
+fn plan(alloc: Global, holdings: &Holdings, wish: &OfficeWish) -> Result<OfficeEntry, AskFault>
+    requires { IsSound holdings.now }
+    ensures tells { Tells (planned (said_by (record_in holdings.now)) wish.now) result }
+    ensures memory { IsAtOnce wish.now → IsNoMemory result }
+{
+    match wish {
+        OfficeWish::AddUser { user } => add_user(holdings, user),
+        OfficeWish::AddBoard { board } => add_board(holdings, board),
+        OfficeWish::TakeAddress {
+            address,
+            user,
+            mailbox,
+        } => take_address(holdings, address, user, mailbox),
+        OfficeWish::DropAddress { address, user } => drop_address(holdings, address, user),
+        OfficeWish::Accept { message } => send(alloc, holdings, message),
     }
 }
 
