@@ -1,11 +1,11 @@
 -- What is told of the mails that wait, and of a board.
-use Rattle.std.proofs.Common.{◌≡◌, ℕ, zero, suc, ◌+◌, ◌<◌, ◌≤◌, Bool, true, false, cond, nat_lt, List, [], ◌∷◌, ◌++◌, length, take, drop, get_or, Option, None, Some, is_some, unwrap_or, option_map, refl, sym, ◌∙◌, ap, subst, arith, append-nil, length-append}
+use Rattle.std.proofs.Common.{◌≡◌, ℕ, ◌+◌, ◌<◌, ◌≤◌, Bool, true, false, cond, List, [], ◌∷◌, ◌++◌, length, take, drop, get_or, Option, None, Some, is_some, unwrap_or, refl, sym, ◌∙◌, ap, subst, arith, append-nil, length-append}
 use Rattle.std.specs.List.{filter, cons_option}
 use Rattle.std.specs.Map.{lookup, keys_of}
 use Rattle.std.proofs.lemmas.List.{take_all, take_at, take_more, take-append-drop}
 use Rattle.std.proofs.lemmas.List.Elements.{filter-append}
 use Rattle.pc_message.specs.declared.lists.Mail.{Mail}
-use Rattle.pc_history.specs.Table.{same, is_among}
+use Rattle.pc_history.specs.Table.{same}
 use Rattle.pc_history.proofs.Tables.{is_among-keys}
 use Rattle.pc_office_history.specs.declared.kept.Target.{Target}
 use Rattle.pc_office_history.specs.declared.kept.KeptMail.{KeptMail}
@@ -20,6 +20,7 @@ use Rattle.pc_office_history.proofs.Mails.{mails_for-append}
 pub record AreTold (user : List ℕ) (after : ℕ) (kept : List KeptMail) (mails : List Mail) : Type 0 where
   pub told : mails ≡ filter (is_past after) (mails_for user kept)
   pub few : length mails ≤ 64
+
 few-past : (after : ℕ) (found : Option Mail) → length (filter (is_past after) (cons_option found [])) ≤ 1
 few-past after None = omega arith
 few-past after (Some mail) = elim (is_past after mail) as (λ b. length (cond b (mail ∷ []) []) ≤ 1) [ true ↦ omega arith | false ↦ omega arith ]
@@ -28,10 +29,10 @@ few-past after (Some mail) = elim (is_past after mail) as (λ b. length (cond b 
 pub told-more : (user : List ℕ) (after : ℕ) (kept : List KeptMail) (index : ℕ) (mail : KeptMail) (mails new : List Mail) → index < length kept → get_or kept index mail ≡ mail → AreTold user after (take index kept) mails → length mails < 64 → new ≡ mails ++ filter (is_past after) (mails_for user (mail ∷ [])) → AreTold user after (take (index + 1) kept) new
 told-more user after kept index mail mails new below is told fewer e = record {
   told =
-    e ∙ ap (λ all. all ++ filter (is_past after) (mails_for user (mail ∷ []))) told.told
-    ∙ sym (filter-append (is_past after) (mails_for user (take index kept)) (mails_for user (mail ∷ [])))
-    ∙ ap (filter (is_past after)) (sym (mails_for-append user (take index kept) (mail ∷ [])))
-    ∙ ap (λ front. filter (is_past after) (mails_for user front)) (ap (λ one. take index kept ++ one ∷ []) (sym is) ∙ sym (take_more kept index mail below));
+      e ∙ ap (λ all. all ++ filter (is_past after) (mails_for user (mail ∷ []))) told.told
+      ∙ sym (filter-append (is_past after) (mails_for user (take index kept)) (mails_for user (mail ∷ [])))
+      ∙ ap (filter (is_past after)) (sym (mails_for-append user (take index kept) (mail ∷ [])))
+      ∙ ap (λ front. filter (is_past after) (mails_for user front)) (ap (λ one. take index kept ++ one ∷ []) (sym is) ∙ sym (take_more kept index mail below));
   few = rw e (omega (arith, length-append mails (filter (is_past after) (mails_for user (mail ∷ []))), few-past after (mail_for user mail)));
 }
 

@@ -1,11 +1,10 @@
-use Rattle.std.proofs.Common.{◌≡◌, IsTrue, sym, ap, ◌∙◌, subst}
+use Rattle.std.proofs.Common.{IsTrue, sym, ap, ◌∙◌, subst}
 use Rattle.pc_holdings.proofs.States.{from-ok}
 use Rattle.pc_office_history.specs.Record.{OfficeRecord}
 use Rattle.pc_office_history.specs.Known.{said_by}
 use Rattle.pc_office_history.specs.History.{◌▹◌}
 use Rattle.pc_office_history.specs.Step.{after}
-use Rattle.pc_office.specs.Held.{Held, record_in}
-use Rattle.pc_office.specs.Step.{entered}
+use Rattle.pc_office.specs.Held.{record_in}
 use Rattle.pc_office.specs.Office.{StandsFor, may_follow, IsSound}
 use Rattle.pc_office.proofs.Entered.{record_in-entered, sound-entered}
 use Rattle.pc_office.proofs.Standing.{StandsFor-after}
