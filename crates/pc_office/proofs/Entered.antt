@@ -1,12 +1,11 @@
 -- What an entry makes of what is held is what it makes of the record, and what waits is counted again.
-use Rattle.std.proofs.Common.{◌≡◌, ℕ, suc, ◌+◌, ◌%◌, Bool, true, false, cond, IsTrue, List, [], ◌∷◌, ◌++◌, length, map, Option, None, Some, is_none, is_some, option_map, refl, sym, ◌∙◌, ap, subst, arith, append-nil, length-append, true≢false}
+use Rattle.std.proofs.Common.{◌≡◌, ℕ, suc, true, false, cond, IsTrue, List, [], ◌∷◌, ◌++◌, map, Option, None, Some, is_none, is_some, option_map, refl, sym, ◌∙◌, ap, subst, arith, append-nil, length-append, true≢false}
 use Rattle.std.specs.List.{AllByRecursion as Every, cons_option}
 use Rattle.std.specs.Map.{lookup, keys_of, set_value}
 use Rattle.std.proofs.lemmas.Bool.{and_parts}
 use Rattle.pc_message.specs.declared.lists.Mail.{Mail}
 use Rattle.pc_message.specs.Message.{weight_of}
 use Rattle.pc_history.specs.Table.{same}
-use Rattle.pc_history.specs.Allowed.{inbox}
 use Rattle.pc_history.specs.Legal.{AreDistinct}
 use Rattle.pc_history.proofs.Tables.{same-true}
 use Rattle.pc_history.proofs.Uids.{Every-append}
@@ -21,7 +20,7 @@ use Rattle.pc_office_history.specs.Effect.{targets_of}
 use Rattle.pc_office_history.specs.Known.{Known, said_by}
 use Rattle.pc_office_history.specs.History.{start, ◌▹◌}
 use Rattle.pc_office_history.specs.Allowed.{is_allowed}
-use Rattle.pc_office_history.specs.Limits.{mail_weight, limit_passed}
+use Rattle.pc_office_history.specs.Limits.{limit_passed}
 use Rattle.pc_office_history.specs.Step.{after, still_waiting, pulled_by}
 use Rattle.pc_office_history.specs.Legal.{IsCanonical}
 use Rattle.pc_office_history.proofs.Mails.{mails_for-append, mails_for-left, pulled-other}

@@ -1,13 +1,13 @@
 -- What is told of the mails that wait, and of a board.
-use Rattle.std.proofs.Common.{◌≡◌, ℕ, zero, suc, ◌+◌, ◌<◌, ◌≤◌, Bool, true, false, cond, nat_lt, List, [], ◌∷◌, ◌++◌, length, take, get_or, Option, None, Some, is_some, unwrap_or, option_map, refl, sym, ◌∙◌, ap, subst, arith, length-append}
+use Rattle.std.proofs.Common.{◌≡◌, ℕ, ◌+◌, ◌<◌, ◌≤◌, Bool, true, false, cond, List, [], ◌∷◌, ◌++◌, length, take, drop, get_or, Option, None, Some, is_some, unwrap_or, refl, sym, ◌∙◌, ap, subst, arith, append-nil, length-append}
 use Rattle.std.specs.List.{filter, cons_option}
 use Rattle.std.specs.Map.{lookup, keys_of}
-use Rattle.std.proofs.lemmas.List.{take_all, take_at}
+use Rattle.std.proofs.lemmas.List.{take_all, take_at, take_more, take-append-drop}
 use Rattle.std.proofs.lemmas.List.Elements.{filter-append}
-use Rattle.std.proofs.Math.Seq.{take-suc}
 use Rattle.pc_message.specs.declared.lists.Mail.{Mail}
-use Rattle.pc_history.specs.Table.{same, is_among}
+use Rattle.pc_history.specs.Table.{same}
 use Rattle.pc_history.proofs.Tables.{is_among-keys}
+use Rattle.pc_office_history.specs.declared.kept.Target.{Target}
 use Rattle.pc_office_history.specs.declared.kept.KeptMail.{KeptMail}
 use Rattle.pc_office_history.specs.Record.{OfficeRecord, mail_for, mails_for}
 use Rattle.pc_office_history.specs.Known.{said_by, is_past}
@@ -26,13 +26,13 @@ few-past after None = omega arith
 few-past after (Some mail) = elim (is_past after mail) as (λ b. length (cond b (mail ∷ []) []) ≤ 1) [ true ↦ omega arith | false ↦ omega arith ]
 
 -- with one mail more
-pub told-more : (user : List ℕ) (after : ℕ) (kept : List KeptMail) (index : ℕ) (mail : KeptMail) (mails new : List Mail) → index < length kept → get_or kept index mail ≡ mail → AreTold user after (take index kept) mails → length mails < 64 → new ≡ mails ++ filter (is_past after) (mails_for user (mail ∷ [])) → AreTold user after (take (suc index) kept) new
+pub told-more : (user : List ℕ) (after : ℕ) (kept : List KeptMail) (index : ℕ) (mail : KeptMail) (mails new : List Mail) → index < length kept → get_or kept index mail ≡ mail → AreTold user after (take index kept) mails → length mails < 64 → new ≡ mails ++ filter (is_past after) (mails_for user (mail ∷ [])) → AreTold user after (take (index + 1) kept) new
 told-more user after kept index mail mails new below is told fewer e = record {
   told =
-    e ∙ ap (λ all. all ++ filter (is_past after) (mails_for user (mail ∷ []))) told.told
-    ∙ sym (filter-append (is_past after) (mails_for user (take index kept)) (mails_for user (mail ∷ [])))
-    ∙ ap (filter (is_past after)) (sym (mails_for-append user (take index kept) (mail ∷ [])))
-    ∙ ap (λ front. filter (is_past after) (mails_for user front)) (ap (λ one. take index kept ++ one ∷ []) (sym is) ∙ sym (take-suc kept index mail below));
+      e ∙ ap (λ all. all ++ filter (is_past after) (mails_for user (mail ∷ []))) told.told
+      ∙ sym (filter-append (is_past after) (mails_for user (take index kept)) (mails_for user (mail ∷ [])))
+      ∙ ap (filter (is_past after)) (sym (mails_for-append user (take index kept) (mail ∷ [])))
+      ∙ ap (λ front. filter (is_past after) (mails_for user front)) (ap (λ one. take index kept ++ one ∷ []) (sym is) ∙ sym (take_more kept index mail below));
   few = rw e (omega (arith, length-append mails (filter (is_past after) (mails_for user (mail ∷ []))), few-past after (mail_for user mail)));
 }
 
@@ -48,6 +48,20 @@ told-front user after kept more mails told full = sym (
     ∙ ap (λ front. take 64 (front ++ filter (is_past after) (mails_for user more))) (sym told.told)
     ∙ take_at mails (filter (is_past after) (mails_for user more)) 64 full
     )
+
+-- 64 are told on the way through these mails
+pub told-on_the_way : (user : List ℕ) (after : ℕ) (kept : List KeptMail) (index : ℕ) (mails : List Mail) → AreTold user after (take index kept) mails → length mails ≡ 64 → mails ≡ take 64 (filter (is_past after) (mails_for user kept))
+told-on_the_way user after kept index mails told full = told-front user after (take index kept) (drop index kept) mails told full ∙ ap (λ all. take 64 (filter (is_past after) (mails_for user all))) (take-append-drop index kept)
+
+-- the way through these mails is done
+pub told-at_the_end : (user : List ℕ) (after : ℕ) (kept : List KeptMail) (index : ℕ) (mails : List Mail) → AreTold user after (take index kept) mails → length kept ≤ index → mails ≡ take 64 (filter (is_past after) (mails_for user kept))
+told-at_the_end user after kept index mails told done = told-all user after (take index kept) mails told ∙ ap (λ all. take 64 (filter (is_past after) (mails_for user all))) (take_all index kept done)
+
+-- ---- addresses
+
+-- the addresses that pass a test are named
+pub names-told : (test : List ℕ × Target → Bool) (names : List (List ℕ)) (ahead all : List (List ℕ × Target)) → names ++ keys_of (filter test ahead) ≡ keys_of (filter test all) → ahead ≡ [] → names ≡ keys_of (filter test all)
+names-told test names ahead all told none = sym (append-nil names) ∙ ap (λ rest. names ++ keys_of (filter test rest)) (sym none) ∙ told
 
 -- ---- boards
 

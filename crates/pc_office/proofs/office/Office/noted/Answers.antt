@@ -1,4 +1,4 @@
-use Rattle.std.proofs.Common.{◌≡◌, ℕ, List, Option, map, unwrap_or, option_map, sym, ap, ◌∙◌}
+use Rattle.std.proofs.Common.{◌≡◌, ℕ, List, Option, unwrap_or, option_map, sym, ap, ◌∙◌}
 use Rattle.std.specs.Map.{lookup}
 use Rattle.pc_history.specs.Table.{same}
 use Rattle.pc_office_history.specs.Record.{OfficeRecord}

@@ -1,7 +1,4 @@
-use Rattle.std.proofs.Common.{◌≡◌, ◌≤◌, length, take}
-use Rattle.std.specs.List.{filter}
-use Rattle.pc_office_history.specs.Record.{mails_for}
-use Rattle.pc_office_history.specs.Known.{is_past}
+use Rattle.std.proofs.Common.{take}
 use Rattle.pc_office.proofs.Told.{AreTold}
 use Rattle.pc_office.proofs.office.Office.waiting.Given as goal
 
