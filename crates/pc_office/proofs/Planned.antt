@@ -1,5 +1,5 @@
 -- What a wish comes to may come next.
-use Rattle.std.proofs.Common.{◌≡◌, ℕ, suc, ◌<◌, ◌≤◌, Bool, true, false, cond, not, ◌&&◌, ◌||◌, nat_lt, List, [], ◌∷◌, length, Option, None, Some, is_none, is_some, Result, Ok, Err, IsTrue, refl, sym, ap, ◌∙◌, subst, arith, lt-ltb, inl, inr, true≢false}
+use Rattle.std.proofs.Common.{tt, IfOk, ◌≡◌, ℕ, suc, ◌<◌, ◌≤◌, Bool, true, false, cond, not, ◌&&◌, ◌||◌, nat_lt, List, [], ◌∷◌, length, Option, None, Some, is_none, is_some, Result, Ok, Err, IsTrue, refl, sym, ap, ◌∙◌, subst, arith, lt-ltb, inl, inr, true≢false}
 use Rattle.std.specs.Option.{option_map_or}
 use Rattle.std.specs.List.{find, list_all}
 use Rattle.std.proofs.lemmas.Bool.{and_from, cases_lt}
@@ -9,6 +9,7 @@ use Rattle.pc_base.specs.declared.refusal.LimitWord.{LimitWord}
 use Rattle.pc_base.specs.declared.refusal.LimitWord.TheVariants as limit
 use Rattle.pc_base.specs.Recipient.{shown_of}
 use Rattle.pc_message.specs.Recipients.{addresses_of, distinct, unknown_of}
+use Rattle.pc_account.specs.declared.wish.AskFault.{AskFault}
 use Rattle.pc_account.specs.Answers.{Tells}
 use Rattle.pc_history.specs.Table.{same}
 use Rattle.pc_history.specs.declared.limits.TheConstants.{LAST_MAIL}
@@ -115,3 +116,8 @@ planned-follows k (wish.AddBoard board) told h = free-follows k board (entry.Add
 planned-follows k (wish.TakeAddress address user mailbox) told h = take-follows k address user mailbox told h
 planned-follows k (wish.DropAddress address user) told h = drop-follows k address user told h
 planned-follows k (wish.Accept message) told h = sent-follows k message told h
+
+-- the same of what is told
+pub told-follows : (k : Known) (w : OfficeWish) (told : Result OfficeEntry AskFault) → Tells (planned k w) told → IfOk told (λ e. IsTrue (may_follow k e))
+told-follows k w (Ok e) h = planned-follows k w e h
+told-follows k w (Err fault) h = tt

@@ -43,7 +43,7 @@ abbrev pub sent_to_names : Known → List (List ℕ) → List (List ℕ) → Res
 sent_to_names k message names = if nat_lt MOST_RECIPIENTS (length names) then Err (LimitReached limit.Recipients)
     else option_map_or (λ name. Err (UnknownRecipient (shown_of name))) (first_stranger k names) (within_limits k (entry.Accept names message))
 
--- what sending a message comes to: an address that is no name is told before all else
+-- what sending a message comes to: before all else an address that is no name is told, and a dash where there is no address at all
 abbrev pub sent : Known → List (List ℕ) → Result OfficeEntry Refusal
 sent k message = option_map_or (λ address. Err (UnknownRecipient (shown_of address))) (unknown_of (addresses_of message)) (sent_to_names k message (distinct (addresses_of message)))
 
@@ -55,7 +55,7 @@ planned k (wish.TakeAddress address user mailbox) = if is_user k user then if_fr
 planned k (wish.DropAddress address user) = if may_give_up k user address then Ok (entry.DropAddress address) else Err NoSuchAddress
 planned k (wish.Accept message) = sent k message
 
--- what is answered where a message has no recipients to send it to
+-- what is answered where the names that a message is for can't be told
 abbrev pub fault_of : RecipientFault → AskFault
 fault_of (recipient.Unknown shown) = ask.Refused (UnknownRecipient shown)
 fault_of recipient.TooMany = ask.Refused (LimitReached limit.Recipients)

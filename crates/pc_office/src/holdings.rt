@@ -3,6 +3,7 @@
 ghost use Rattle.std.specs.Prelude.{◌≡◌, ◌<◌, ◌^◌, ◌-◌, [], ◌∷◌, ◌++◌, map, None, IsTrue, IfOk, OnOk};
 ghost use Rattle.std.specs.Map.{lookup};
 ghost use Rattle.pc_history.specs.Table.{same};
+ghost use Rattle.pc_history.specs.Allowed.{inbox};
 ghost use Rattle.pc_message.specs.Message.{weight_of};
 ghost use Rattle.pc_office_history.specs.declared.entry.OfficeEntry.TheVariants as entry;
 ghost use Rattle.pc_office_history.specs.Effect.{targets_of};
@@ -137,11 +138,8 @@ impl Holdings {
         requires address { lookup (same user.now) self.old.addresses ≡ None }
         ensures { OnOk result (self.new ≡ entered self.old (entry.AddUser user.now)) }
     {
-        let Some(inbox) = Name::read(b"inbox") else {
-            return Err(Memory);
-        };
         self.users.add(alloc, *user)?;
-        self.take_address(user, user, &inbox)
+        self.take_address(user, user, &inbox())
     }
 
     /// Takes an address for a mailbox of a user.
@@ -240,5 +238,15 @@ impl Holdings {
             }
         }
         standing
+    }
+}
+
+/// The mailbox of new mail.
+fn inbox() -> Name
+    ensures { result ≡ inbox }
+{
+    match Name::read(b"inbox") {
+        Some(name) => name,
+        None => unreachable!(),
     }
 }

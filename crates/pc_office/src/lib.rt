@@ -14,4 +14,5 @@ mod users;
 mod wish;
 
 pub use office::Office;
+pub use pc_office_history::OfficeEntry;
 pub use wish::OfficeWish;

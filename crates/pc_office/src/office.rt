@@ -3,7 +3,7 @@
 ghost use Rattle.std.specs.Prelude.{◌≡◌, IsTrue, OnOk, OnErr, IfOk};
 ghost use Rattle.pc_office_history.specs.Record.{empty_record};
 ghost use Rattle.pc_office_history.specs.Known.{said_by};
-ghost use Rattle.pc_office_history.specs.History.{History, ◌▹◌};
+ghost use Rattle.pc_office_history.specs.History.{History, ◌▹◌, new_office};
 ghost use Rattle.pc_office_history.specs.Step.{after};
 ghost use Rattle.pc_office.specs.Office.{StandsFor, may_follow};
 
@@ -34,7 +34,8 @@ impl Model for Office {
 impl Office {
     /// An office without entries.
     pub fn empty(alloc: Global) -> Result<Office, Memory>
-        ensures { IfOk result (λ office. office ≡ empty_record) }
+        ensures record { IfOk result (λ office. office ≡ empty_record) }
+        ensures history { IfOk result (λ office. StandsFor office new_office) }
     {
         Ok(Office {
             holdings: Holdings::empty(alloc),

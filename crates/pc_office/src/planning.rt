@@ -34,7 +34,8 @@ impl Office {
         may_follow(&self.holdings, entry)
     }
 
-    /// The entry that a wish comes to, which may come next, or the first refusal.
+    /// The entry that a wish comes to, which may come next, or the first refusal. Memory is wanted
+    /// only to send.
     pub fn plan(&self, alloc: Global, wish: &OfficeWish) -> Result<OfficeEntry, AskFault>
         ensures held { Tells (planned (said_by self.now) wish.now) result }
         ensures history { (h : History) → StandsFor self.now h → Tells (planned (known h) wish.now) result }
@@ -212,7 +213,7 @@ fn first_stranger<'a>(holdings: &Holdings, names: &'a [Name]) -> Option<&'a Name
     names.iter().find(|name| !is_recipient(holdings, *name))
 }
 
-/// What is answered where a message has no recipients to send it to.
+/// What is answered where the names that a message is for can't be told.
 fn fault_of(fault: &RecipientFault) -> AskFault
     ensures { result ≡ fault_of fault.now }
 {

@@ -75,7 +75,8 @@ impl Office {
         Ok(names)
     }
 
-    /// The first 64 mails that wait for a user, with numbers past this one, rising.
+    /// The first 64 mails that wait for a user with numbers past `after`, rising. Each is also past
+    /// what is noted of the user.
     pub fn waiting(&self, alloc: Global, user: &Name, after: u64) -> Result<Mails, Memory>
         ensures held { IfOk result (λ mails. mails ≡ waiting_past (said_by self.now) user.now after) }
         ensures history { (h : History) → StandsFor self.now h → IfOk result (λ mails. mails ≡ waiting_past (known h) user.now after) }

@@ -105,6 +105,11 @@ fn tell_words(
             let after = number(words, 1)? as u64;
             mails(alloc, &office.waiting(alloc, &name(words, 0)?, after)?)
         }
+        "Told" => {
+            let after = number(words, 1)? as u64;
+            let told = office.waiting(alloc, &name(words, 0)?, after)?;
+            Ok(format!(in alloc; "{}", told.as_slice().len())?)
+        }
         "Noted" => Ok(format!(in alloc; "{}", office.noted(&name(words, 0)?))?),
         "Accepted" => Ok(format!(in alloc; "{}", office.accepted())?),
         "Board" => board(alloc, office, &name(words, 0)?),

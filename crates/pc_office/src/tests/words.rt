@@ -37,17 +37,19 @@ pub fn wish(alloc: Global, verb: &str, words: &[&str]) -> Result<Option<OfficeWi
             user: name(words, 1)?,
         })),
         "Send" => Ok(Some(OfficeWish::Accept {
-            message: message_to(alloc, number(words, 0)?, words)?,
+            message: message(alloc, number(words, 0)?, &field(alloc, words)?)?,
+        })),
+        "Commas" => Ok(Some(OfficeWish::Accept {
+            message: message(alloc, number(words, 1)?, &with_commas(alloc, words)?)?,
         })),
         _ => Ok(None),
     }
 }
 
-/// A message to the items that are named from the second word on, with so many lines of 998 bytes.
-pub fn message_to(alloc: Global, count: u32, items: &[&str]) -> Result<Message, Fail> {
+/// A message with this field, and so many lines of 998 bytes behind an empty one.
+fn message(alloc: Global, count: u32, field: &str) -> Result<Message, Fail> {
     let mut lines = Lines::new(alloc);
-    let to = field(alloc, items)?;
-    lines.push(Line::copy_of(alloc, to.as_bytes())?)?;
+    lines.push(Line::copy_of(alloc, field.as_bytes())?)?;
     lines.push(Line::copy_of(alloc, b"")?)?;
     let text = [b'x'; 998];
     for _ in 0..count {
@@ -62,6 +64,15 @@ fn field(alloc: Global, items: &[&str]) -> Result<String, Fail> {
     for item in items.iter().skip(1) {
         text.push(' ')?;
         text.push_str(item)?;
+    }
+    Ok(text)
+}
+
+/// The field that names the item in the third word, with as many commas as the first word says.
+fn with_commas(alloc: Global, words: &[&str]) -> Result<String, Fail> {
+    let mut text = field(alloc, words.get(1..).ok_or("words")?)?;
+    for _ in 0..number(words, 0)? {
+        text.push(',')?;
     }
     Ok(text)
 }
