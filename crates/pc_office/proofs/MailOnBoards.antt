@@ -3,10 +3,10 @@ use Rattle.std.proofs.Common.{◌≡◌, ℕ, ◌+◌, ◌*◌, Bool, true, fals
 use Rattle.std.specs.List.{list_any}
 use Rattle.std.specs.Map.{lookup, keys_of}
 use Rattle.std.specs.Option.{option_map_or}
-use Rattle.std.proofs.lemmas.Bool.{or_parts, and_parts, ltb-true, leb-true}
+use Rattle.std.proofs.lemmas.Bool.{or_parts, ltb-true, leb-true}
 use Rattle.pc_base.specs.declared.refusal.LimitWord.TheVariants as limit
 use Rattle.pc_message.specs.Message.{weight_of}
-use Rattle.pc_history.specs.Table.{same, is_among, total}
+use Rattle.pc_history.specs.Table.{same, is_among}
 use Rattle.pc_history.proofs.Tables.{same-refl, same-true, is_among-keys}
 use Rattle.pc_account.proofs.Passed.{distinct-back}
 use Rattle.pc_office_history.specs.declared.limits.TheConstants.{MOST_BOARD_MESSAGES, MOST_BOARD_WEIGHT}

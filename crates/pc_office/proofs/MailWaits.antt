@@ -1,7 +1,7 @@
 -- Whether too much would wait once a mail is accepted, by what is counted.
-use Rattle.std.proofs.Common.{◌≡◌, ℕ, suc, ◌+◌, ◌<◌, ◌≤◌, ◌%◌, ◌^◌, Bool, true, false, cond, not, ◌&&◌, ◌||◌, nat_lt, nat_le, List, [], ◌∷◌, ◌++◌, length, Option, None, Some, option_map, is_some, refl, sym, ◌∙◌, ap, subst, inl, inr, arith, true≢false, ltb-false, lt-ltb, le-ltb, le-leb, length-append}
-use Rattle.std.specs.List.{AllByRecursion as Every, list_any, list_all, cons_option}
-use Rattle.std.specs.Map.{lookup, keys_of}
+use Rattle.std.proofs.Common.{◌≡◌, ℕ, suc, ◌+◌, ◌<◌, ◌^◌, Bool, true, false, cond, not, ◌&&◌, ◌||◌, nat_lt, nat_le, List, [], ◌∷◌, ◌++◌, length, Option, None, Some, option_map, is_some, refl, sym, ◌∙◌, ap, subst, inl, inr, arith, true≢false, ltb-false, lt-ltb, le-ltb, le-leb, length-append}
+use Rattle.std.specs.List.{AllByRecursion as Every, list_any, cons_option}
+use Rattle.std.specs.Map.{lookup}
 use Rattle.std.specs.Option.{option_map_or}
 use Rattle.std.proofs.Math.Nat.{mod-eq_of_lt}
 use Rattle.std.proofs.lemmas.Bool.{or_parts, cases_lt, lt-leb}
@@ -21,9 +21,8 @@ use Rattle.pc_office_history.specs.Record.{target_of, mail_at, mails_for}
 use Rattle.pc_office_history.specs.Effect.{other_targets, targets_of}
 use Rattle.pc_office_history.specs.Known.{Known, said_by}
 use Rattle.pc_office_history.specs.History.{History, start, ◌▹◌, known}
-use Rattle.pc_office_history.specs.Allowed.{is_allowed, is_recipient, are_apart}
+use Rattle.pc_office_history.specs.Allowed.{is_allowed}
 use Rattle.pc_office_history.specs.Limits.{mail_weight, are_too_many, would_pass}
-use Rattle.pc_office_history.specs.Legal.{IsLegal}
 use Rattle.pc_office_history.proofs.Mails.{targets-every}
 use Rattle.pc_office_history.proofs.Names.{AreApart-legal, waiting-of-targets}
 use Rattle.pc_office_history.proofs.Waiting.{mail-added}
@@ -157,7 +156,7 @@ module _ (held : Held) (sound : IsSound held) (names message : List (List ℕ)) 
   waits-over sendable room =
       waiting-of-targets here names message sound.canonical (allowed-here sendable room)
       ∙ any-agree (λ (target : Target). are_too_many (more-for target.user)) (λ (target : Target). over_user (weight_of message) held target.user) sent.targets
-        (Every-zip (λ (target : Target). is_among target.user k.users ≡ true) (λ (target : Target). is_some (target_of target.user sent.targets) ≡ true) (λ (target : Target). are_too_many (more-for target.user) ≡ over_user (weight_of message) held target.user) (λ target a b. over-at target.user a b) sent.targets
-        (targets-every (λ (target : Target). is_among target.user k.users ≡ true) k.owner names (AreApart-legal here sound.canonical).owners)
-        (found-each sent.targets (λ user. is_some (target_of user sent.targets)) (λ user h. h)))
+      (Every-zip (λ (target : Target). is_among target.user k.users ≡ true) (λ (target : Target). is_some (target_of target.user sent.targets) ≡ true) (λ (target : Target). are_too_many (more-for target.user) ≡ over_user (weight_of message) held target.user) (λ target a b. over-at target.user a b) sent.targets
+      (targets-every (λ (target : Target). is_among target.user k.users ≡ true) k.owner names (AreApart-legal here sound.canonical).owners)
+      (found-each sent.targets (λ user. is_some (target_of user sent.targets)) (λ user h. h)))
       ∙ any-owner (over_user (weight_of message) held) k.owner names

@@ -1,5 +1,5 @@
 -- How many names two lists share.
-use Rattle.std.proofs.Common.{◌≡◌, ℕ, suc, ◌+◌, ◌*◌, Bool, true, false, cond, ◌||◌, not, List, [], ◌∷◌, length, filter, refl, sym, ◌∙◌, ap, arith, true≢false}
+use Rattle.std.proofs.Common.{◌≡◌, ℕ, ◌+◌, ◌*◌, Bool, true, false, cond, ◌||◌, not, List, [], ◌∷◌, length, filter, refl, sym, ◌∙◌, ap, arith, true≢false}
 use Rattle.std.specs.List.{AllByRecursion as Every}
 use Rattle.std.proofs.lemmas.Bool.{and_parts, not-true}
 use Rattle.std.proofs.Math.Nat.{suc-mul}

@@ -1,4 +1,4 @@
-use Rattle.std.proofs.Common.{◌≡◌, ◌∙◌, length, refl, sym, ap, arith, le-ltb}
+use Rattle.std.proofs.Common.{◌∙◌, length, refl, sym, ap, arith, le-ltb}
 use Rattle.std.specs.List.{list_any}
 use Rattle.pc_office_history.specs.declared.limits.TheConstants.{MOST_RECIPIENTS}
 use Rattle.pc_office_history.specs.Known.{said_by}
