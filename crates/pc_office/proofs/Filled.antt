@@ -1,5 +1,5 @@
 -- The boards among names, counted one after the other.
-use Rattle.std.proofs.Common.{◌≡◌, ℕ, suc, ◌+◌, ◌-◌, ◌*◌, ◌<◌, ◌≤◌, ◌^◌, min, Bool, false, cond, ◌||◌, nat_lt, nat_le, List, [], ◌∷◌, length, drop, get_or, filter, Option, None, Some, is_some, refl, sym, ◌∙◌, ap, arith, ltb-false, lt-ltb, le-ltb, inl, inr}
+use Rattle.std.proofs.Common.{◌≡◌, ℕ, suc, ◌+◌, ◌-◌, ◌*◌, ◌<◌, ◌≤◌, ◌^◌, min, Bool, false, cond, ◌||◌, nat_lt, nat_le, List, ◌∷◌, length, drop, get_or, filter, Option, None, Some, is_some, sym, ◌∙◌, ap, arith, ltb-false, lt-ltb, le-ltb, inl, inr}
 use Rattle.std.specs.Option.{option_map_or}
 use Rattle.std.specs.List.{list_any}
 use Rattle.std.specs.Map.{lookup}

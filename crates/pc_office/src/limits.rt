@@ -1,13 +1,12 @@
 //! Which limit an entry would pass first, by what is counted.
 
-ghost use Rattle.std.specs.Prelude.{◌≡◌, ◌+◌, ◌<◌, ◌≤◌, ◌||◌, nat_lt, length, true, false, None, IsTrue};
-ghost use Rattle.std.specs.List.{list_any, list_all};
-ghost use Rattle.pc_message.specs.Message.{weight_of};
+ghost use Rattle.std.specs.Prelude.{◌≡◌, ◌≤◌, length, IsTrue};
+ghost use Rattle.std.specs.List.{list_any};
 ghost use Rattle.pc_office_history.specs.declared.entry.OfficeEntry.TheVariants as entry;
 ghost use Rattle.pc_office_history.specs.declared.limits.TheConstants.{MOST_RECIPIENTS};
-ghost use Rattle.pc_office_history.specs.Known.{said_by, after_entry};
-ghost use Rattle.pc_office_history.specs.Allowed.{is_allowed, is_recipient, are_apart};
-ghost use Rattle.pc_office_history.specs.Limits.{would_pass, limit_passed};
+ghost use Rattle.pc_office_history.specs.Known.{said_by};
+ghost use Rattle.pc_office_history.specs.Allowed.{is_allowed};
+ghost use Rattle.pc_office_history.specs.Limits.{limit_passed};
 ghost use Rattle.pc_office.specs.Held.{record_in};
 ghost use Rattle.pc_office.specs.Limits.{IsSendable, is_over as over, has_room as fits_in, are_full};
 ghost use Rattle.pc_office.specs.Office.{IsSound};
@@ -111,9 +110,7 @@ pub fn limit_of_mail(holdings: &Holdings, names: &[Name], message: &Message) -> 
 fn too_much_waits(holdings: &Holdings, names: &[Name], weight: u32) -> bool
     ensures { result ≡ list_any (over weight holdings.now) names.now }
 {
-    names
-        .iter()
-        .any(|name| is_over(holdings, name, weight))
+    names.iter().any(|name| is_over(holdings, name, weight))
 }
 
 /// Whether more would wait than may for the user to whom the name belongs.

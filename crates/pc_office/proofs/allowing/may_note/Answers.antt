@@ -1,4 +1,4 @@
-use Rattle.std.proofs.Common.{◌≡◌, ◌∙◌, sym, ap, ◌&&◌, Some, None, nat_lt, nat_le, lt-ltb, le-ltb}
+use Rattle.std.proofs.Common.{◌≡◌, ◌∙◌, sym, ap, ◌&&◌, Some, nat_le, lt-ltb, le-ltb}
 use Rattle.std.specs.Map.{lookup}
 use Rattle.pc_history.specs.Table.{same}
 use Rattle.pc_office.proofs.Asked.{noted-found, noted-missing}

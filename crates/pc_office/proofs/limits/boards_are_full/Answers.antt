@@ -1,4 +1,4 @@
-use Rattle.std.proofs.Common.{◌≡◌, ◌+◌, ◌*◌, ◌-◌, ◌^◌, min, length, drop, refl, sym, ◌∙◌, ap, arith, Some, None, option_copied}
+use Rattle.std.proofs.Common.{◌≡◌, ◌+◌, ◌*◌, ◌-◌, ◌^◌, min, length, drop, sym, ◌∙◌, ap, arith, Some, None, option_copied}
 use Rattle.std.specs.Map.{lookup}
 use Rattle.pc_history.specs.Table.{same}
 use Rattle.pc_office.specs.Held.{weight_on_all}
