@@ -1,5 +1,5 @@
 -- A name that is free for an entry that may come next has no place in the tables.
-use Rattle.std.proofs.Common.{◌≡◌, ℕ, true, List, None, is_none, sym, ap, ◌∙◌}
+use Rattle.std.proofs.Common.{◌≡◌, ℕ, true, List, None, is_none, sym, ◌∙◌}
 use Rattle.std.specs.Map.{lookup}
 use Rattle.std.proofs.lemmas.Bool.{and_parts}
 use Rattle.pc_history.specs.Table.{same}

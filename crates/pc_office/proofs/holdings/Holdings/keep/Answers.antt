@@ -1,5 +1,5 @@
 use Rattle.pc_message.specs.Message.{weight_of}
-use Rattle.pc_office.proofs.Pulls.{for-nobody}
+use Rattle.pc_office.proofs.ForNobody.{for-nobody}
 use Rattle.pc_office.proofs.holdings.Holdings.keep.Goals as goal
 
 pub returns-then-is_empty : goal.returns-then-is_empty

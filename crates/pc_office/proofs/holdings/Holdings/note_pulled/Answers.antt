@@ -1,4 +1,4 @@
-use Rattle.std.proofs.Common.{◌≡◌, ℕ, suc, ◌+◌, List, length, not, map, filter, slice_set, slice_index_or, refl, sym, ap, ◌∙◌, arith, subst, rules}
+use Rattle.std.proofs.Common.{◌≡◌, suc, ◌+◌, List, length, map, slice_set, slice_index_or, sym, ap, ◌∙◌, arith, rules}
 use Rattle.std.specs.Map.{set_value}
 use Rattle.std.proofs.lemmas.Fn.{filter_same}
 use Rattle.pc_history.specs.Table.{same}
@@ -7,8 +7,7 @@ use Rattle.pc_office_history.specs.Record.{mails_for}
 use Rattle.pc_office_history.specs.Step.{is_awaited, pulled_by, still_waiting}
 use Rattle.pc_office.specs.Held.{Held}
 use Rattle.pc_office.specs.Step.{front_mapped, standing_of, kept_after}
-use Rattle.pc_office.proofs.Fronts.{front-all}
-use Rattle.pc_office.proofs.Pulls.{front-put, written-back}
+use Rattle.pc_office.proofs.Fronts.{front-all, front-put, written-back}
 use Rattle.pc_office.proofs.holdings.Holdings.note_pulled.Goals as goal
 
 pub loop-mail-preserved : goal.loop-mail-preserved

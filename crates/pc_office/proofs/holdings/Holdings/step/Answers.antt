@@ -1,4 +1,4 @@
-use Rattle.std.proofs.Common.{◌≡◌, true, None, subst, ap, ◌∙◌}
+use Rattle.std.proofs.Common.{◌≡◌, true, subst, ap, ◌∙◌}
 use Rattle.std.specs.Map.{lookup}
 use Rattle.pc_history.specs.Table.{same}
 use Rattle.pc_office_history.specs.declared.entry.OfficeEntry.{OfficeEntry}
