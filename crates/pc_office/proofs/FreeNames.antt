@@ -5,7 +5,6 @@ use Rattle.std.proofs.lemmas.Bool.{and_parts}
 use Rattle.pc_history.specs.Table.{same}
 use Rattle.pc_history.proofs.Tables.{is_among-keys}
 use Rattle.pc_office_history.specs.declared.entry.OfficeEntry.{OfficeEntry}
-use Rattle.pc_office_history.specs.declared.entry.OfficeEntry.TheVariants as entry
 use Rattle.pc_office_history.specs.Known.{said_by}
 use Rattle.pc_office_history.specs.Allowed.{is_free, is_allowed}
 use Rattle.pc_office_history.specs.Limits.{limit_passed}
