@@ -1,6 +1,7 @@
--- Tables that are changed at one place after the other.
-use Rattle.std.proofs.Common.{◌≡◌, ℕ, zero, suc, ◌+◌, ◌<◌, List, [], ◌∷◌, map, length, slice_get, slice_index_or, Option, None, Some, refl, sym, ap, ◌∙◌, arith}
+-- Lists and tables that are changed at one place after the other.
+use Rattle.std.proofs.Common.{◌≡◌, ℕ, zero, suc, ◌+◌, ◌<◌, List, [], ◌∷◌, ◌++◌, map, length, take, drop, slice_get, slice_index_or, slice_set, None, Some, refl, sym, ap, ◌∙◌, arith, append-nil}
 use Rattle.std.specs.Map.{keys_of, values_of}
+use Rattle.std.proofs.lemmas.List.{take_all, drop_all}
 use Rattle.indexmap.specs.IndexMap.{set_value_at}
 use Rattle.pc_history.specs.Table.{total}
 use Rattle.pc_history.proofs.Tables.{some-none, some-same}
@@ -30,10 +31,21 @@ module _ {X : Type 0} (change : X → X) where
   front-kept zero (first ∷ all) item e h = let is = some-same first item e in ap (λ (x : X). x ∷ all) (is ∙ sym h ∙ ap change (sym is))
   front-kept (suc place) (first ∷ all) item e h = ap (λ (rest : List X). change first ∷ rest) (front-kept place all item e h)
 
+  -- the front grows by an item that is changed in its place
+  pub front-put : (place : ℕ) (all : List X) (default new : X) → place < length all → new ≡ change (slice_index_or (front_mapped change place all) place default) → slice_set (front_mapped change place all) place new ≡ front_mapped change (suc place) all
+  front-put place [] default new within e = absurd (omega arith)
+  front-put zero (first ∷ all) default new within e = ap (λ (item : X). item ∷ all) e
+  front-put (suc place) (first ∷ all) default new within e = ap (λ (rest : List X). change first ∷ rest) (front-put place all default new (omega arith) e)
+
   -- at last the front is all
   pub front-all : (all : List X) → front_mapped change (length all) all ≡ map change all
   front-all [] = refl
   front-all (first ∷ all) = ap (λ (rest : List X). change first ∷ rest) (front-all all)
+
+-- a list that was changed in each place stands where it stood
+pub written-back : {X : Type 0} (count : ℕ) (changed items : List X) → length items ≡ count → length changed ≡ length items → take count (changed ++ drop (length changed) items) ≡ changed
+written-back count changed items whole same =
+    ap (λ rest. take count (changed ++ rest)) (drop_all (length changed) items (omega arith)) ∙ ap (take count) (append-nil changed) ∙ take_all count changed (omega arith)
 
 module _ {V : Type 0} where
   -- an entry is the name and the value of its place

@@ -1,15 +1,15 @@
 -- What a message adds to a board, and to what is counted of all.
-use Rattle.std.proofs.Common.{◌≡◌, ℕ, suc, ◌+◌, ◌%◌, Bool, true, false, cond, ◌||◌, List, [], ◌∷◌, ◌++◌, slice_get, Option, Some, refl, sym, ap, ◌∙◌, arith}
+use Rattle.std.proofs.Common.{◌≡◌, ℕ, suc, ◌+◌, ◌%◌, true, false, cond, ◌||◌, List, [], ◌∷◌, ◌++◌, slice_get, Some, refl, sym, ap, ◌∙◌, arith}
 use Rattle.std.specs.List.{list_any}
 use Rattle.std.specs.Map.{keys_of, values_of}
 use Rattle.indexmap.specs.IndexMap.{set_value_at}
 use Rattle.pc_message.specs.Message.{weight_of}
 use Rattle.pc_history.specs.Table.{same, is_among, total}
-use Rattle.pc_history.proofs.Tables.{same-sym, some-same}
+use Rattle.pc_history.proofs.Tables.{same-sym}
 use Rattle.pc_history.proofs.Numbers.{total-append}
 use Rattle.pc_office.specs.Held.{weight_on, weight_on_all}
 use Rattle.pc_office.specs.Step.{front_mapped, posted}
-use Rattle.pc_office.proofs.Fronts.{front-kept, front-set, entry-at, set-at-same, total-set-at}
+use Rattle.pc_office.proofs.Fronts.{front-kept, front-set, entry-at, total-set-at}
 
 abbrev pub Board : Type 0
 Board = List ℕ × List (List (List ℕ))

@@ -143,12 +143,7 @@ impl Holdings {
     }
 
     /// Takes an address for a mailbox of a user.
-    fn take_address(
-        &mut self,
-        address: &Name,
-        user: &Name,
-        mailbox: &Name,
-    ) -> Result<(), Memory>
+    fn take_address(&mut self, address: &Name, user: &Name, mailbox: &Name) -> Result<(), Memory>
         requires { lookup (same address.now) self.old.addresses ≡ None }
         ensures { OnOk result (self.new ≡ entered self.old (entry.TakeAddress address.now user.now mailbox.now)) }
     {
@@ -173,8 +168,8 @@ impl Holdings {
     /// Keeps the last mail that was accepted for its targets, where it has any.
     fn keep(&mut self, alloc: Global, targets: Targets, message: &Message) -> Result<(), Memory>
         ensures { OnOk result (self.new ≡ record self.old {
-            users = map (awaited targets (weight_of message.now)) self.old.users;
-            kept = self.old.kept ++ still_waiting (record { number = self.old.accepted; targets = targets; message = message.now } ∷ []);
+          users = map (awaited targets (weight_of message.now)) self.old.users;
+          kept = self.old.kept ++ still_waiting (record { number = self.old.accepted; targets = targets; message = message.now } ∷ []);
         }) }
     {
         if targets.is_empty() {

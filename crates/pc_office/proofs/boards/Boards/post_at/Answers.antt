@@ -1,10 +1,8 @@
-use Rattle.std.proofs.Common.{◌≡◌, ℕ, suc, ◌<◌, Bool, true, false, List, length, nat_lt, slice_get, slice_index_or, Some, refl, sym, ap, ◌∙◌, subst, ltb-true}
-use Rattle.std.specs.Map.{keys_of, values_of}
+use Rattle.std.proofs.Common.{◌≡◌, ℕ, true, false, List, length, nat_lt, slice_get, slice_index_or, Some, sym, ap, ◌∙◌, subst, ltb-true}
+use Rattle.std.specs.Map.{keys_of}
 use Rattle.indexmap.specs.IndexMap.{set_value_at}
 use Rattle.indexmap.specs.Layout.{length-set_value_at}
 use Rattle.pc_history.specs.Table.{is_among}
-use Rattle.pc_office.specs.Held.{weight_on_all}
-use Rattle.pc_office.specs.Step.{front_mapped, posted}
 use Rattle.pc_office.proofs.Fronts.{item-at, found-at, keys-set-at, set-at-same, key-at}
 use Rattle.pc_office.proofs.Posts.{Board, among-either, weighed-more, unposted, posted-one}
 use Rattle.pc_office.proofs.boards.Boards.post_at.Goals as goal

@@ -1,5 +1,5 @@
-use Rattle.std.proofs.Common.{◌≡◌, ℕ, suc, ◌<◌, Bool, true, false, cond, List, length, slice_get, Option, Some, refl, sym, ap, ◌∙◌, subst}
-use Rattle.std.specs.Map.{keys_of, values_of}
+use Rattle.std.proofs.Common.{◌≡◌, ℕ, suc, Bool, true, false, cond, List, length, slice_get, Option, Some, sym, ap, ◌∙◌}
+use Rattle.std.specs.Map.{values_of}
 use Rattle.std.specs.Option.{option_map_or, is_some}
 use Rattle.indexmap.specs.IndexMap.{set_value_at}
 use Rattle.indexmap.specs.Layout.{length-set_value_at}

@@ -1,4 +1,4 @@
-use Rattle.std.proofs.Common.{◌≡◌, ℕ, List, refl, ap, ◌∙◌, length, arith}
+use Rattle.std.proofs.Common.{◌≡◌, ℕ, List, ap, ◌∙◌, length, arith}
 use Rattle.pc_office.specs.declared.users.Standing.{Standing}
 use Rattle.pc_office.specs.Step.{front_mapped, awaited}
 use Rattle.pc_office.proofs.Fronts.{front-all}
