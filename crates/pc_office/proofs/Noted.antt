@@ -1,5 +1,5 @@
 -- The users with what is noted of them, read off what is held.
-use Rattle.std.proofs.Common.{◌≡◌, ℕ, Bool, true, false, cond, List, [], ◌∷◌, map, Option, None, Some, option_map, is_some, refl, sym, ◌∙◌, ap}
+use Rattle.std.proofs.Common.{◌≡◌, ℕ, true, false, cond, List, [], ◌∷◌, map, Some, option_map, is_some, refl, ◌∙◌, ap}
 use Rattle.std.specs.Map.{lookup, keys_of}
 use Rattle.pc_history.specs.Table.{same, is_among}
 use Rattle.pc_history.proofs.Tables.{is_among-keys}

@@ -1,9 +1,8 @@
 -- What a wish comes to may come next.
-use Rattle.std.proofs.Common.{tt, IfOk, ◌≡◌, ℕ, suc, ◌<◌, ◌≤◌, Bool, true, false, cond, not, ◌&&◌, ◌||◌, nat_lt, List, [], ◌∷◌, length, Option, None, Some, is_none, is_some, Result, Ok, Err, IsTrue, refl, sym, ap, ◌∙◌, subst, arith, lt-ltb, inl, inr, true≢false}
+use Rattle.std.proofs.Common.{IfOk, ◌≡◌, ℕ, suc, ◌<◌, Bool, true, false, cond, not, ◌&&◌, ◌||◌, nat_lt, List, [], ◌∷◌, length, Option, None, Some, is_none, is_some, Result, Ok, Err, IsTrue, refl, sym, ap, ◌∙◌, arith, lt-ltb, inl, inr, true≢false}
 use Rattle.std.specs.Option.{option_map_or}
 use Rattle.std.specs.List.{find, list_all}
 use Rattle.std.proofs.lemmas.Bool.{and_from, cases_lt}
-use Rattle.pc_base.specs.declared.refusal.Refusal.{Refusal}
 use Rattle.pc_base.specs.declared.refusal.Refusal.TheVariants.{LimitReached, NoSuchAddress, AddressTaken, UnknownRecipient}
 use Rattle.pc_base.specs.declared.refusal.LimitWord.{LimitWord}
 use Rattle.pc_base.specs.declared.refusal.LimitWord.TheVariants as limit
@@ -18,9 +17,9 @@ use Rattle.pc_office_history.specs.declared.kept.Target.{Target}
 use Rattle.pc_office_history.specs.declared.limits.TheConstants.{MOST_RECIPIENTS}
 use Rattle.pc_office_history.specs.declared.entry.OfficeEntry.{OfficeEntry}
 use Rattle.pc_office_history.specs.declared.entry.OfficeEntry.TheVariants as entry
-use Rattle.pc_office_history.specs.Known.{Known, after_entry}
+use Rattle.pc_office_history.specs.Known.{Known}
 use Rattle.pc_office_history.specs.Allowed.{is_allowed, is_user, is_free, is_recipient, are_apart}
-use Rattle.pc_office_history.specs.Limits.{limit_passed, would_pass, limits_of}
+use Rattle.pc_office_history.specs.Limits.{limit_passed, would_pass}
 use Rattle.pc_office.specs.declared.wish.OfficeWish.{OfficeWish}
 use Rattle.pc_office.specs.declared.wish.OfficeWish.TheVariants as wish
 use Rattle.pc_office.specs.Office.{may_follow}
@@ -77,9 +76,11 @@ numbered k names message h =
     second true b rest e = absurd (some-none limit.Recipients e)
     second false true rest e = absurd (some-none limit.Waiting e)
     second false false rest e = refl
+
     last : (a b : Bool) → (a || b) ≡ false → b ≡ false
     last true b e = absurd (true≢false e)
     last false b e = e
+
     below : (count : ℕ) → nat_lt LAST_MAIL (suc count) ≡ false → nat_lt count LAST_MAIL ≡ true
     below count e = elim (cases_lt count LAST_MAIL) [
       | inl under ↦ lt-ltb count LAST_MAIL under
@@ -105,6 +106,7 @@ sent-follows k message told h =
         let counted : nat_lt 0 (length names) ≡ true = lt-ltb 0 (length names) some in
         let all = none-strange (is_recipient k) names found in
         follows k (entry.Accept names message) told (all-four (nat_lt 0 (length names)) (are_apart names) (list_all (is_recipient k) names) (nat_lt k.accepted LAST_MAIL) counted apart all (numbered k names message parts.0)) parts.0 parts.1
+
     few : (names : List (List ℕ)) → unknown_of (addresses_of message) ≡ None → (many : Bool) → Tells (cond many (Err (LimitReached limit.Recipients)) (option_map_or (λ name. Err (UnknownRecipient (shown_of name))) (first_stranger k (distinct (addresses_of message))) (within_limits k (entry.Accept (distinct (addresses_of message)) message)))) (Ok told) → may_follow k told ≡ true
     few names none true never = absurd never
     few names none false rest = known_names (distinct (addresses_of message)) (some-distinct (addresses_of message) none) (apart-distinct (addresses_of message)) (first_stranger k (distinct (addresses_of message))) refl rest

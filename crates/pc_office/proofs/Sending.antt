@@ -1,14 +1,11 @@
 -- The names to which a message is sent, and what a plan allows.
-use Rattle.std.proofs.Common.{◌≡◌, ℕ, suc, ◌<◌, ◌≤◌, Bool, true, false, cond, not, ◌&&◌, ◌||◌, nat_lt, List, [], ◌∷◌, length, Option, None, Some, is_none, Result, Ok, Err, IsTrue, refl, sym, ap, ◌∙◌, subst, arith, true≢false}
-use Rattle.std.specs.Option.{option_map_or}
-use Rattle.std.specs.List.{filter, find, list_all, list_any}
+use Rattle.std.proofs.Common.{◌≡◌, ℕ, ◌<◌, Bool, true, false, cond, not, ◌&&◌, ◌||◌, List, [], ◌∷◌, length, None, Some, refl, sym, ◌∙◌, arith, true≢false}
+use Rattle.std.specs.List.{filter, find, list_all}
 use Rattle.std.specs.Str.{bytes_eq}
-use Rattle.std.proofs.lemmas.Bool.{and_from, cases_lt}
 use Rattle.std.proofs.lemmas.Slice.Eq.{bytes_eq-Decides}
-use Rattle.pc_base.specs.declared.refusal.LimitWord.{LimitWord}
 use Rattle.pc_message.specs.Recipients.{distinct, unknown_of}
 use Rattle.pc_history.specs.Table.{same, is_among}
-use Rattle.pc_history.proofs.Tables.{same-true, same-refl, some-none}
+use Rattle.pc_history.proofs.Tables.{same-true, some-none}
 use Rattle.pc_office_history.specs.Allowed.{are_apart}
 
 -- names that are left of others don't hold one that is taken out
@@ -19,9 +16,9 @@ taken-out text (other ∷ texts) =
     elim (bytes_eq other text) as (λ b. bytes_eq other text ≡ b → is_among text (cond (not b) (other ∷ rest) rest) ≡ false) [
       | true ↦ λ _. taken-out text texts
       | false ↦ λ apart. elim (same text other) as (λ b. same text other ≡ b → (b || is_among text rest) ≡ false) [
-          | true ↦ λ e. absurd (true≢false (sym ((bytes_eq-Decides other text).1 (sym (same-true text other e))) ∙ apart))
-          | false ↦ λ _. taken-out text texts
-        ] refl
+        | true ↦ λ e. absurd (true≢false (sym ((bytes_eq-Decides other text).1 (sym (same-true text other e))) ∙ apart))
+        | false ↦ λ _. taken-out text texts
+      ] refl
     ] refl
 
 -- what isn't among names isn't among those of them that pass a test

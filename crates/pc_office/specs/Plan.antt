@@ -1,5 +1,5 @@
 -- What a wish comes to: its entry, or the first refusal.
-use Rattle.std.specs.Prelude.{ℕ, ⊤, Bool, false, not, ◌&&◌, nat_lt, List, length, Option, None, Some, Result, Ok, Err, if◌then◌else◌}
+use Rattle.std.specs.Prelude.{ℕ, ⊤, Bool, false, not, ◌&&◌, nat_lt, List, length, Option, Result, Ok, Err, if◌then◌else◌}
 use Rattle.std.specs.Option.{option_map_or}
 use Rattle.std.specs.List.{find}
 use Rattle.pc_base.specs.declared.refusal.LimitWord.TheVariants as limit

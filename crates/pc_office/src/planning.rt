@@ -16,7 +16,9 @@ ghost use Rattle.pc_office.specs.Plan.{fault_of, first_stranger, sent_to_names, 
 
 use crate::allowing::{is_allowed, is_free, is_recipient, is_user};
 use crate::holdings::Holdings;
-use crate::limits::{limit_of_address, limit_of_mail, limit_of_new_board, limit_of_user, limit_passed};
+use crate::limits::{
+    limit_of_address, limit_of_mail, limit_of_new_board, limit_of_user, limit_passed,
+};
 use crate::office::Office;
 use crate::wish::OfficeWish;
 use pc_account::AskFault;
@@ -147,11 +149,7 @@ fn take_address(
     )
 }
 
-fn drop_address(
-    holdings: &Holdings,
-    address: &Name,
-    user: &Name,
-) -> Result<OfficeEntry, AskFault>
+fn drop_address(holdings: &Holdings, address: &Name, user: &Name) -> Result<OfficeEntry, AskFault>
     ensures tells { Tells (planned (said_by (record_in holdings.now)) (wish.DropAddress address.now user.now)) result }
     ensures memory { IsNoMemory result }
 {

@@ -27,7 +27,13 @@ fn recipients(rt: HostRuntime) -> Result<(), Fail> {
     gives(&rt, rt.alloc(), &mut office, "AddUser ann", "ok")?;
     each(&rt, rt.alloc(), &mut office, "Take a", " ann inbox", 64)?;
     sends(&rt, rt.alloc(), &mut office, 64, "ok")?;
-    sends(&rt, rt.alloc(), &mut office, 65, "418 Limit reached recipients")
+    sends(
+        &rt,
+        rt.alloc(),
+        &mut office,
+        65,
+        "418 Limit reached recipients",
+    )
 }
 
 #[test]

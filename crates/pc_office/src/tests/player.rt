@@ -117,12 +117,7 @@ fn tell_words(
     }
 }
 
-fn addresses(
-    alloc: Global,
-    office: &Office,
-    user: &Name,
-    mailbox: &Name,
-) -> Result<String, Fail> {
+fn addresses(alloc: Global, office: &Office, user: &Name, mailbox: &Name) -> Result<String, Fail> {
     names(alloc, &office.addresses(alloc, user, mailbox)?)
 }
 
