@@ -1,6 +1,6 @@
 //! An office that is told in words what to do, so that a test is a table of lines and answers.
 
-use super::words::{name, number, wish};
+use super::words::{entry, name, number, wish};
 use crate::{Office, OfficeWish};
 use pc_account::AskFault;
 use pc_base::{Name, Names};
@@ -85,36 +85,60 @@ fn enter(alloc: Global, office: &mut Office, entry: &OfficeEntry) -> Result<Stri
     text(alloc, b"ok")
 }
 
-/// The answer to a question, or what an entry comes to that isn't wished for.
+/// What an entry comes to that isn't wished for, or the answer to a question.
 fn tell_words(
     alloc: Global,
     office: &mut Office,
     verb: &str,
     words: &[&str],
 ) -> Result<String, Fail> {
+    match entry(alloc, verb, words)? {
+        Some(entry) => enter(alloc, office, &entry),
+        None => answer(alloc, office, verb, words),
+    }
+}
+
+/// The answer to a question.
+fn answer(alloc: Global, office: &Office, verb: &str, words: &[&str]) -> Result<String, Fail> {
     match verb {
-        "Pulled" => {
-            let user = name(words, 0)?;
-            let number = number(words, 1)? as u64;
-            enter(alloc, office, &OfficeEntry::Pulled { user, number })
-        }
         "Users" => names(alloc, office.users()),
         "Boards" => names(alloc, office.boards()),
+        "Accepted" => text_of_number(alloc, office.accepted()),
         "Addresses" => addresses(alloc, office, &name(words, 0)?, &name(words, 1)?),
-        "Waiting" => {
-            let after = number(words, 1)? as u64;
-            mails(alloc, &office.waiting(alloc, &name(words, 0)?, after)?)
-        }
-        "Told" => {
-            let after = number(words, 1)? as u64;
-            let told = office.waiting(alloc, &name(words, 0)?, after)?;
-            Ok(format!(in alloc; "{}", told.as_slice().len())?)
-        }
-        "Noted" => Ok(format!(in alloc; "{}", office.noted(&name(words, 0)?))?),
-        "Accepted" => Ok(format!(in alloc; "{}", office.accepted())?),
-        "Board" => board(alloc, office, &name(words, 0)?),
+        _ => answer_of_name(alloc, office, verb, &name(words, 0)?, words),
+    }
+}
+
+/// The answer to a question about a user or a board.
+fn answer_of_name(
+    alloc: Global,
+    office: &Office,
+    verb: &str,
+    name: &Name,
+    words: &[&str],
+) -> Result<String, Fail> {
+    match verb {
+        "Noted" => text_of_number(alloc, office.noted(name)),
+        "Board" => board(alloc, office, name),
+        "Waiting" => waiting(alloc, office, name, number(words, 1)? as u64),
+        "Told" => told(alloc, office, name, number(words, 1)? as u64),
         _ => Err("a verb")?,
     }
+}
+
+fn text_of_number(alloc: Global, number: u64) -> Result<String, Fail> {
+    Ok(format!(in alloc; "{number}")?)
+}
+
+/// The mails that wait for a user.
+fn waiting(alloc: Global, office: &Office, user: &Name, after: u64) -> Result<String, Fail> {
+    mails(alloc, &office.waiting(alloc, user, after)?)
+}
+
+/// How many mails a user is told of.
+fn told(alloc: Global, office: &Office, user: &Name, after: u64) -> Result<String, Fail> {
+    let told = office.waiting(alloc, user, after)?;
+    text_of_number(alloc, told.as_slice().len() as u64)
 }
 
 fn addresses(alloc: Global, office: &Office, user: &Name, mailbox: &Name) -> Result<String, Fail> {
@@ -124,7 +148,7 @@ fn addresses(alloc: Global, office: &Office, user: &Name, mailbox: &Name) -> Res
 /// How many messages stand on a board.
 fn board(alloc: Global, office: &Office, board: &Name) -> Result<String, Fail> {
     match office.board(board) {
-        Some(messages) => Ok(format!(in alloc; "{}", messages.len())?),
+        Some(messages) => text_of_number(alloc, messages.len() as u64),
         None => text(alloc, b"none"),
     }
 }

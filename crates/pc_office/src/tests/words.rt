@@ -1,7 +1,7 @@
 //! The words of a line, and the wishes that they spell.
 
-use crate::OfficeWish;
-use pc_base::{Line, Lines, Name, read_u32};
+use crate::{OfficeEntry, OfficeWish};
+use pc_base::{Line, Lines, Name, Names, read_u32};
 use pc_message::Message;
 use std::alloc::Global;
 use std::test::Fail;
@@ -44,6 +44,38 @@ pub fn wish(alloc: Global, verb: &str, words: &[&str]) -> Result<Option<OfficeWi
         })),
         _ => Ok(None),
     }
+}
+
+/// The entry that a line spells, where it spells one that isn't wished for.
+pub fn entry(alloc: Global, verb: &str, words: &[&str]) -> Result<Option<OfficeEntry>, Fail> {
+    match verb {
+        "Pulled" => Ok(Some(OfficeEntry::Pulled {
+            user: name(words, 0)?,
+            number: number(words, 1)? as u64,
+        })),
+        "EntryDrop" => Ok(Some(OfficeEntry::DropAddress {
+            address: name(words, 0)?,
+        })),
+        "EntryTake" => Ok(Some(OfficeEntry::TakeAddress {
+            address: name(words, 0)?,
+            user: name(words, 1)?,
+            mailbox: name(words, 1)?,
+        })),
+        "EntrySend" => Ok(Some(OfficeEntry::Accept {
+            names: names(alloc, words)?,
+            message: message(alloc, 0, "")?,
+        })),
+        _ => Ok(None),
+    }
+}
+
+/// The names that these words are.
+fn names(alloc: Global, words: &[&str]) -> Result<Names, Fail> {
+    let mut names = Names::new(alloc);
+    for place in 0..words.len() {
+        names.push(name(words, place)?)?;
+    }
+    Ok(names)
 }
 
 /// A message with this field, and so many lines of 998 bytes behind an empty one.
