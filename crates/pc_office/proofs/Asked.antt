@@ -2,9 +2,9 @@
 use Rattle.std.proofs.Common.{◌≡◌, ℕ, Bool, true, false, ◌&&◌, nat_lt, nat_le, List, map, None, Some, option_map, is_some, unwrap_or, ◌∙◌, ap}
 use Rattle.std.specs.Map.{lookup, keys_of}
 use Rattle.pc_history.specs.Table.{same, is_among}
-use Rattle.pc_office.specs.declared.users.Standing.{Standing}
-use Rattle.pc_office.specs.Held.{noted_of}
-use Rattle.pc_office.proofs.Noted.{is_among-noted, lookup-noted}
+use Rattle.pc_office_holdings.specs.declared.users.Standing.{Standing}
+use Rattle.pc_office_holdings.specs.Held.{noted_of}
+use Rattle.pc_office_holdings.proofs.Noted.{is_among-noted, lookup-noted}
 
 -- a user that is found may be noted to have pulled where the number is above what is noted of it
 pub noted-found : (name : List ℕ) (users : List (List ℕ × Standing)) (standing : Standing) (number accepted : ℕ) → lookup (same name) users ≡ Some standing → (is_among name (keys_of (map noted_of users)) && nat_lt (unwrap_or (lookup (same name) (map noted_of users)) 0) number && nat_le number accepted) ≡ (nat_lt standing.noted number && nat_le number accepted)

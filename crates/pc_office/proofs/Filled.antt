@@ -14,7 +14,7 @@ use Rattle.pc_office_history.specs.Known.{said_by}
 use Rattle.pc_office_history.specs.Limits.{board_weight}
 use Rattle.pc_office_history.specs.Legal.{IsCanonical}
 use Rattle.pc_office_history.proofs.Names.{read-off}
-use Rattle.pc_office.specs.Held.{Held, record_in, weight_on_all}
+use Rattle.pc_office_holdings.specs.Held.{Held, record_in, weight_on_all}
 use Rattle.pc_office.specs.Limits.{is_filled, board_count, are_full}
 
 -- what all boards of a canonical record count for

@@ -15,9 +15,9 @@ use Rattle.pc_office_history.specs.Known.{Known, said_by, after_entry}
 use Rattle.pc_office_history.specs.Limits.{board_weight, would_pass}
 use Rattle.pc_office_history.specs.Allowed.{are_apart}
 use Rattle.pc_office_history.proofs.Names.{read-off, weight-added}
-use Rattle.pc_office.specs.Held.{Held, record_in, weight_on_all}
+use Rattle.pc_office_holdings.specs.Held.{Held, record_in, weight_on_all}
 use Rattle.pc_office.specs.Limits.{is_filled, board_count, are_full}
-use Rattle.pc_office.specs.Office.{IsSound}
+use Rattle.pc_office_holdings.specs.State.{IsSound}
 use Rattle.pc_office.proofs.NamesCounted.{shared, total-alike}
 use Rattle.pc_office.proofs.MailWaits.{none-among}
 

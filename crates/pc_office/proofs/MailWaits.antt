@@ -26,11 +26,11 @@ use Rattle.pc_office_history.specs.Limits.{mail_weight, are_too_many, would_pass
 use Rattle.pc_office_history.proofs.Mails.{targets-every}
 use Rattle.pc_office_history.proofs.Names.{AreApart-legal, waiting-of-targets}
 use Rattle.pc_office_history.proofs.Waiting.{mail-added}
-use Rattle.pc_office.specs.declared.users.Standing.{Standing}
-use Rattle.pc_office.specs.Held.{Held, record_in, AreCounted, IsCounted}
+use Rattle.pc_office_holdings.specs.declared.users.Standing.{Standing}
+use Rattle.pc_office_holdings.specs.Held.{Held, record_in, AreCounted, IsCounted}
 use Rattle.pc_office.specs.Limits.{IsSendable, has_room, is_over}
-use Rattle.pc_office.specs.Office.{IsSound}
-use Rattle.pc_office.proofs.Noted.{is_among-noted}
+use Rattle.pc_office_holdings.specs.State.{IsSound}
+use Rattle.pc_office_holdings.proofs.Noted.{is_among-noted}
 
 -- ---- tests over lists
 

@@ -22,7 +22,7 @@ use Rattle.pc_office_history.specs.Allowed.{is_allowed, is_user, is_free, is_rec
 use Rattle.pc_office_history.specs.Limits.{limit_passed, would_pass}
 use Rattle.pc_office.specs.declared.wish.OfficeWish.{OfficeWish}
 use Rattle.pc_office.specs.declared.wish.OfficeWish.TheVariants as wish
-use Rattle.pc_office.specs.Office.{may_follow}
+use Rattle.pc_office_holdings.specs.State.{may_follow}
 use Rattle.pc_office.specs.Plan.{within_limits, if_free, may_give_up, first_stranger, sent_to_names, sent, planned}
 use Rattle.pc_office.proofs.Sending.{apart-distinct, some-distinct, none-strange}
 

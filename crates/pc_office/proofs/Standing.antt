@@ -8,8 +8,8 @@ use Rattle.pc_office_history.specs.Allowed.{is_allowed}
 use Rattle.pc_office_history.specs.Limits.{limit_passed}
 use Rattle.pc_office_history.specs.Step.{after}
 use Rattle.pc_office_history.proofs.Histories.{Stands-legal}
-use Rattle.pc_office.specs.Office.{StandsFor, may_follow}
-use Rattle.pc_office.proofs.Entered.{may-parts}
+use Rattle.pc_office_holdings.specs.State.{StandsFor, may_follow}
+use Rattle.pc_office_holdings.proofs.Entered.{may-parts}
 
 pub said_is_known : (r : OfficeRecord) (h : History) → StandsFor r h → said_by r ≡ known h
 said_is_known r h stands = ap said_by (sym stands.held) ∙ sym (Stands-legal h stands.legal).alike

@@ -1,5 +1,2 @@
-pub mod Held
-pub mod Step
 pub mod Limits
-pub mod Office
 pub mod Plan

@@ -8,8 +8,8 @@ use Rattle.pc_office_history.specs.declared.limits.TheConstants.{MOST_WAITING, M
 use Rattle.pc_office_history.specs.declared.kept.Target.{Target}
 use Rattle.pc_office_history.specs.Known.{Known}
 use Rattle.pc_office_history.specs.Allowed.{is_recipient, are_apart}
-use Rattle.pc_office.specs.declared.users.Standing.{Standing}
-use Rattle.pc_office.specs.Held.{Held, weight_on_all}
+use Rattle.pc_office_holdings.specs.declared.users.Standing.{Standing}
+use Rattle.pc_office_holdings.specs.Held.{Held, weight_on_all}
 
 -- a mail may be sent to these names, but for its limits
 pub record IsSendable (k : Known) (names : List (List ℕ)) : Type 0 where

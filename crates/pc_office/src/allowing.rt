@@ -5,9 +5,9 @@ ghost use Rattle.std.specs.List.{list_all};
 ghost use Rattle.pc_office_history.specs.declared.entry.OfficeEntry.TheVariants as entry;
 ghost use Rattle.pc_office_history.specs.Known.{said_by};
 ghost use Rattle.pc_office_history.specs.Allowed.{is_user, is_board, is_address, is_free, is_recipient, are_apart, is_allowed};
-ghost use Rattle.pc_office.specs.Held.{record_in};
+ghost use Rattle.pc_office_holdings.specs.Held.{record_in};
 
-use crate::holdings::Holdings;
+use pc_office_holdings::Holdings;
 use pc_base::Name;
 use pc_history::LAST_MAIL;
 use pc_office_history::OfficeEntry;

@@ -2,15 +2,12 @@
 #![tactic(auto)]
 
 mod allowing;
-mod boards;
-mod holdings;
 mod limits;
 mod office;
 mod planning;
 mod telling;
 #[cfg(test)]
 mod tests;
-mod users;
 mod wish;
 
 pub use office::Office;

@@ -7,12 +7,12 @@ ghost use Rattle.pc_office_history.specs.declared.limits.TheConstants.{MOST_RECI
 ghost use Rattle.pc_office_history.specs.Known.{said_by};
 ghost use Rattle.pc_office_history.specs.Allowed.{is_allowed};
 ghost use Rattle.pc_office_history.specs.Limits.{limit_passed};
-ghost use Rattle.pc_office.specs.Held.{record_in};
+ghost use Rattle.pc_office_holdings.specs.Held.{record_in};
 ghost use Rattle.pc_office.specs.Limits.{IsSendable, is_over as over, has_room as fits_in, are_full};
-ghost use Rattle.pc_office.specs.Office.{IsSound};
+ghost use Rattle.pc_office_holdings.specs.State.{IsSound};
 
-use crate::holdings::Holdings;
-use crate::users::Standing;
+use pc_office_holdings::Holdings;
+use pc_office_holdings::Standing;
 use pc_base::{LimitWord, Name};
 use pc_history::LAST_MAIL;
 use pc_message::Message;

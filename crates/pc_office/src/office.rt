@@ -5,9 +5,9 @@ ghost use Rattle.pc_office_history.specs.Record.{empty_record};
 ghost use Rattle.pc_office_history.specs.Known.{said_by};
 ghost use Rattle.pc_office_history.specs.History.{History, ◌▹◌, new_office};
 ghost use Rattle.pc_office_history.specs.Step.{after};
-ghost use Rattle.pc_office.specs.Office.{StandsFor, may_follow};
+ghost use Rattle.pc_office_holdings.specs.State.{StandsFor, may_follow};
 
-use crate::holdings::Holdings;
+use pc_office_holdings::Holdings;
 use pc_base::Memory;
 use pc_office_history::OfficeEntry;
 use std::alloc::Global;
@@ -21,8 +21,8 @@ pub struct Office {
 
 impl Model for Office {
     ghost use Rattle.pc_office_history.specs.Record.{OfficeRecord};
-    ghost use Rattle.pc_office.specs.Held.{record_in};
-    ghost use Rattle.pc_office.specs.Office.{IsSound};
+    ghost use Rattle.pc_office_holdings.specs.Held.{record_in};
+    ghost use Rattle.pc_office_holdings.specs.State.{IsSound};
 
     ghost Value = { OfficeRecord };
 

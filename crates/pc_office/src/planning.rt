@@ -10,12 +10,12 @@ ghost use Rattle.pc_office_history.specs.Allowed.{are_apart};
 ghost use Rattle.pc_office_history.specs.Known.{said_by};
 ghost use Rattle.pc_office_history.specs.History.{History, known};
 ghost use Rattle.pc_office.specs.declared.wish.OfficeWish.TheVariants as wish;
-ghost use Rattle.pc_office.specs.Held.{record_in};
-ghost use Rattle.pc_office.specs.Office.{StandsFor, may_follow, IsSound};
+ghost use Rattle.pc_office_holdings.specs.Held.{record_in};
+ghost use Rattle.pc_office_holdings.specs.State.{StandsFor, may_follow, IsSound};
 ghost use Rattle.pc_office.specs.Plan.{fault_of, first_stranger, sent_to_names, sent, planned, may_give_up as gives_up, IsAtOnce};
 
 use crate::allowing::{is_allowed, is_free, is_recipient, is_user};
-use crate::holdings::Holdings;
+use pc_office_holdings::Holdings;
 use crate::limits::{
     limit_of_address, limit_of_mail, limit_of_new_board, limit_of_user, limit_passed,
 };

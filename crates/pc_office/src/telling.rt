@@ -6,7 +6,7 @@ ghost use Rattle.pc_office_history.specs.Record.{mails_for};
 ghost use Rattle.pc_office_history.specs.Known.{said_by, is_past};
 ghost use Rattle.pc_office_history.specs.History.{History, known};
 ghost use Rattle.pc_office_history.specs.Answers.{addresses_of, waiting_past, board_of};
-ghost use Rattle.pc_office.specs.Office.{StandsFor};
+ghost use Rattle.pc_office_holdings.specs.State.{StandsFor};
 
 use crate::office::Office;
 use pc_base::{Memory, Name, Names};

@@ -2,7 +2,7 @@ use Rattle.std.proofs.Common.{◌∙◌, length, refl, sym, ap, arith, le-ltb}
 use Rattle.std.specs.List.{list_any}
 use Rattle.pc_office_history.specs.declared.limits.TheConstants.{MOST_RECIPIENTS}
 use Rattle.pc_office_history.specs.Known.{said_by}
-use Rattle.pc_office.specs.Held.{record_in}
+use Rattle.pc_office_holdings.specs.Held.{record_in}
 use Rattle.pc_office.specs.Limits.{is_over, are_full}
 use Rattle.pc_office.proofs.MailWaits.{waits-over}
 use Rattle.pc_office.proofs.MailOnBoards.{boards-full}

@@ -3,7 +3,7 @@ use Rattle.pc_office_history.specs.declared.entry.OfficeEntry.{OfficeEntry}
 use Rattle.pc_office_history.specs.declared.entry.OfficeEntry.TheVariants.{Accept}
 use Rattle.pc_office_history.specs.Known.{said_by}
 use Rattle.pc_office_history.specs.Limits.{limit_passed}
-use Rattle.pc_office.specs.Held.{record_in}
+use Rattle.pc_office_holdings.specs.Held.{record_in}
 use Rattle.pc_office.proofs.limits.limit_passed.Goals as goal
 
 pub returns-in-Accept : goal.returns-in-Accept

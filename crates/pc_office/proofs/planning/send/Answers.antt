@@ -7,7 +7,7 @@ use Rattle.pc_message.specs.declared.addresses.RecipientFault.{RecipientFault}
 use Rattle.pc_account.specs.Answers.{Tells}
 use Rattle.pc_office_history.specs.Allowed.{are_apart}
 use Rattle.pc_office_history.specs.Known.{said_by}
-use Rattle.pc_office.specs.Held.{record_in}
+use Rattle.pc_office_holdings.specs.Held.{record_in}
 use Rattle.pc_office.specs.Plan.{sent_to_names}
 use Rattle.pc_office.proofs.Sending.{apart-distinct, some-distinct}
 use Rattle.pc_office.proofs.planning.send.Goals as goal

@@ -1,7 +1,7 @@
 use Rattle.std.proofs.Common.{◌≡◌, List, ℕ, None, option_copied, sym, ap, subst, ◌∙◌}
 use Rattle.pc_office_history.specs.Allowed.{is_recipient}
 use Rattle.pc_office_history.specs.Known.{said_by}
-use Rattle.pc_office.specs.Held.{record_in}
+use Rattle.pc_office_holdings.specs.Held.{record_in}
 use Rattle.pc_office.specs.Limits.{IsSendable}
 use Rattle.pc_office.specs.Plan.{first_stranger}
 use Rattle.pc_office.proofs.Sending.{none-strange}

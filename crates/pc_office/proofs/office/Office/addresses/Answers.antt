@@ -7,7 +7,7 @@ use Rattle.pc_office_history.specs.Record.{OfficeRecord}
 use Rattle.pc_office_history.specs.Known.{Known, said_by}
 use Rattle.pc_office_history.specs.Answers.{addresses_of}
 use Rattle.pc_office_history.proofs.Names.{read-off}
-use Rattle.pc_office.specs.Held.{record_in}
+use Rattle.pc_office_holdings.specs.Held.{record_in}
 use Rattle.pc_office.proofs.Told.{names-told}
 use Rattle.pc_office.proofs.Standing.{said_is_known}
 use Rattle.pc_office.proofs.office.Office.addresses.Goals as goal

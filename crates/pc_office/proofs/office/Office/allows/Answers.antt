@@ -1,7 +1,7 @@
 use Rattle.std.proofs.Common.{ap, ◌∙◌}
 use Rattle.pc_office_history.specs.Known.{Known, said_by}
 use Rattle.pc_office_history.specs.Record.{OfficeRecord}
-use Rattle.pc_office.specs.Office.{may_follow}
+use Rattle.pc_office_holdings.specs.State.{may_follow}
 use Rattle.pc_office.proofs.Standing.{said_is_known}
 use Rattle.pc_office.proofs.office.Office.allows.Goals as goal
 

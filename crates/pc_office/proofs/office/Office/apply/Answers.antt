@@ -4,9 +4,9 @@ use Rattle.pc_office_history.specs.Record.{OfficeRecord}
 use Rattle.pc_office_history.specs.Known.{said_by}
 use Rattle.pc_office_history.specs.History.{◌▹◌}
 use Rattle.pc_office_history.specs.Step.{after}
-use Rattle.pc_office.specs.Held.{record_in}
-use Rattle.pc_office.specs.Office.{StandsFor, may_follow, IsSound}
-use Rattle.pc_office.proofs.Entered.{record_in-entered, sound-entered}
+use Rattle.pc_office_holdings.specs.Held.{record_in}
+use Rattle.pc_office_holdings.specs.State.{StandsFor, may_follow, IsSound}
+use Rattle.pc_office_holdings.proofs.Entered.{record_in-entered, sound-entered}
 use Rattle.pc_office.proofs.Standing.{StandsFor-after}
 use Rattle.pc_office.proofs.office.Office.apply.Goals as goal
 

@@ -4,7 +4,7 @@ use Rattle.pc_history.specs.Table.{same}
 use Rattle.pc_office_history.specs.Record.{OfficeRecord}
 use Rattle.pc_office_history.specs.Known.{Known, said_by}
 use Rattle.pc_office_history.specs.Answers.{board_of}
-use Rattle.pc_office.specs.Held.{Held, record_in}
+use Rattle.pc_office_holdings.specs.Held.{Held, record_in}
 use Rattle.pc_office.proofs.Told.{board-said}
 use Rattle.pc_office.proofs.Standing.{said_is_known}
 use Rattle.pc_office.proofs.office.Office.board.Goals as goal

@@ -3,9 +3,9 @@ use Rattle.std.specs.Map.{lookup}
 use Rattle.pc_history.specs.Table.{same}
 use Rattle.pc_office_history.specs.Record.{OfficeRecord}
 use Rattle.pc_office_history.specs.Known.{Known, said_by}
-use Rattle.pc_office.specs.declared.users.Standing.{Standing}
-use Rattle.pc_office.specs.Held.{Held, record_in}
-use Rattle.pc_office.proofs.Noted.{lookup-noted}
+use Rattle.pc_office_holdings.specs.declared.users.Standing.{Standing}
+use Rattle.pc_office_holdings.specs.Held.{Held, record_in}
+use Rattle.pc_office_holdings.proofs.Noted.{lookup-noted}
 use Rattle.pc_office.proofs.Standing.{said_is_known}
 use Rattle.pc_office.proofs.office.Office.noted.Goals as goal
 

@@ -2,7 +2,7 @@ use Rattle.std.proofs.Common.{sym, ap, ◌∙◌}
 use Rattle.std.specs.Map.{keys_of}
 use Rattle.pc_office_history.specs.Record.{OfficeRecord}
 use Rattle.pc_office_history.specs.Known.{Known}
-use Rattle.pc_office.proofs.Noted.{keys-noted}
+use Rattle.pc_office_holdings.proofs.Noted.{keys-noted}
 use Rattle.pc_office.proofs.Standing.{said_is_known}
 use Rattle.pc_office.proofs.office.Office.users.Goals as goal
 

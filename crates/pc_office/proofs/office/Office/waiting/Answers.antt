@@ -4,7 +4,7 @@ use Rattle.pc_office_history.specs.declared.kept.KeptMail.{KeptMail}
 use Rattle.pc_office_history.specs.Record.{OfficeRecord, mails_for}
 use Rattle.pc_office_history.specs.Known.{Known, said_by}
 use Rattle.pc_office_history.specs.Answers.{waiting_past}
-use Rattle.pc_office.specs.Held.{Held, record_in}
+use Rattle.pc_office_holdings.specs.Held.{Held, record_in}
 use Rattle.pc_office.proofs.Told.{told-more, told-on_the_way, told-at_the_end}
 use Rattle.pc_office.proofs.Standing.{said_is_known}
 use Rattle.pc_office.proofs.office.Office.waiting.Goals as goal

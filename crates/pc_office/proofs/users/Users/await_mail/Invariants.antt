@@ -1,6 +1,0 @@
-use Rattle.std.proofs.Common.{◌≡◌, length}
-use Rattle.pc_office.specs.Step.{front_mapped, awaited}
-use Rattle.pc_office.proofs.users.Users.await_mail.Given as goal
-
-abbrev pub invariant-loop-index : goal.invariant-loop-index
-invariant-loop-index l = (l.self ≡ front_mapped (awaited l.targets l.weight) l.index l.initial.self) × (length l.self ≡ length l.initial.self)

@@ -1,0 +1,8 @@
+pub mod Entered
+pub mod FirstTargets
+pub mod ForNobody
+pub mod FreeNames
+pub mod Fronts
+pub mod Noted
+pub mod Posts
+pub mod Standings
