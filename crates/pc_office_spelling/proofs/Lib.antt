@@ -1,0 +1,4 @@
+pub mod EntryFormats
+pub mod EntryLaws
+pub mod EntryReads
+pub mod Names

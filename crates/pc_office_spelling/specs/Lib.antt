@@ -1,0 +1,4 @@
+pub mod Spelling
+pub mod EntryForm
+pub mod EntryFormat
+pub mod Laws
