@@ -2,3 +2,8 @@ pub mod Spelling
 pub mod EntryForm
 pub mod EntryFormat
 pub mod Laws
+pub mod RecordSpelling
+pub mod RecordForm
+pub mod Spaces
+pub mod RecordFormat
+pub mod RecordLaws
