@@ -5,3 +5,6 @@ pub mod Names
 pub mod Items
 pub mod Spaces
 pub mod Waits
+pub mod OpenUsers
+pub mod GoodKept
+pub mod ReadsKept
