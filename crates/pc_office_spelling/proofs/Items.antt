@@ -2,6 +2,7 @@
 use Rattle.std.proofs.Common.{◌≡◌, ℕ, zero, suc, List, [], ◌∷◌, ◌++◌, length, refl, sym, ap, subst, ◌∙◌, append_assoc}
 use Rattle.std.specs.List.{flat_map}
 use Rattle.std.proofs.lemmas.List.{append-nil}
+use Rattle.pc_spelling.specs.Spelling.{u16_field, u32_field, short_list, long_list}
 use Rattle.pc_spelling.specs.Format.{Format}
 use Rattle.pc_spelling.proofs.Formats.{ReadsAs, reads_bind}
 use Rattle.pc_spelling.proofs.Good.{Good, good_bind, good_weaker}
@@ -62,3 +63,14 @@ module _ {X : Type 0} (item : ℕ → List X → Format X) (fields_of : X → Li
       let next = step before x rest left in
       subst (λ (all : List X). ReadsAs (items_from item (suc (length rest)) before) (fields_of x ++ flat_map fields_of rest) all) (append_assoc before (x ∷ []) rest)
       (reads_bind (item (length rest) before) (λ y. items_from item (length rest) (before ++ y ∷ [])) (fields_of x) (flat_map fields_of rest) x ((before ++ x ∷ []) ++ rest) next.0 (reads_items Left step (before ++ x ∷ []) rest next.1))
+
+-- the same with how many they are in front
+pub short-spelled : {X : Type 0} {fields_of : X → List (List ℕ)} {Holds : ℕ → List X → Type 0} (front : List (List ℕ)) (count : ℕ) {fields : List (List ℕ)} {items : List X} → AreItems fields_of Holds (front ++ u16_field count ∷ []) count fields items → fields ≡ front ++ short_list fields_of items
+short-spelled {X} {fields_of} {Holds} front count {fields} {items} are =
+    let counted = are.counted in
+    are.spelled ∙ append_assoc front (u16_field count ∷ []) (flat_map fields_of items) ∙ ap (λ (n : ℕ). front ++ (u16_field n ∷ flat_map fields_of items)) (sym counted)
+
+pub long-spelled : {X : Type 0} {fields_of : X → List (List ℕ)} {Holds : ℕ → List X → Type 0} (front : List (List ℕ)) (count : ℕ) {fields : List (List ℕ)} {items : List X} → AreItems fields_of Holds (front ++ u32_field count ∷ []) count fields items → fields ≡ front ++ long_list fields_of items
+long-spelled {X} {fields_of} {Holds} front count {fields} {items} are =
+    let counted = are.counted in
+    are.spelled ∙ append_assoc front (u32_field count ∷ []) (flat_map fields_of items) ∙ ap (λ (n : ℕ). front ++ (u32_field n ∷ flat_map fields_of items)) (sym counted)

@@ -8,3 +8,5 @@ pub mod Waits
 pub mod OpenUsers
 pub mod GoodKept
 pub mod ReadsKept
+pub mod NewNames
+pub mod GoodTables
