@@ -34,6 +34,7 @@ pub record UsersBefore (count : ℕ) (before : List (List ℕ × ℕ)) : Type 0 
   pub few : count + length before ≤ 32
   pub distinct : AreDistinct (keys_of before)
   pub fit : list_all user_fits before ≡ true
+  pub noted : Every (λ (user : List ℕ × ℕ). user.1 ≤ 9223372036854775807) before
 
 good-user : (count : ℕ) (before : List (List ℕ × ℕ)) (front : List (List ℕ)) → UsersBefore (suc count) before → Good (Next user_format user_fields UsersBefore count before front) (user_format count before) front
 good-user count before front h =
@@ -45,7 +46,7 @@ good-user count before front h =
         (0, refl, refl),
         λ noted fit passed.
             let size = length-append before ((name, noted) ∷ []) in
-            (append_assoc front (name_field name ∷ []) (u64_field noted ∷ []), record { few = omega (arith, few, size); distinct = keys-distinct before name noted h.distinct new; fit = all-push user_fits before (name, noted) h.fit is }),
+            (append_assoc front (name_field name ∷ []) (u64_field noted ∷ []), record { few = omega (arith, few, size); distinct = keys-distinct before name noted h.distinct new; fit = all-push user_fits before (name, noted) h.fit is; noted = Every-append (λ (user : List ℕ × ℕ). user.1 ≤ 9223372036854775807) before ((name, noted) ∷ []) h.noted ((within-parts 0 9223372036854775807 noted passed).1, tt) }),
       ),
     )
 
@@ -60,7 +61,7 @@ good_users front = (
       let behind = front ++ u16_field count ∷ [] in
       let range = (within-parts 0 32 count passed).1 in
       good_weaker (AreItems user_fields UsersBefore behind count) (AreReadUsers front) (items_from user_format count []) behind
-      (good_items user_format user_fields UsersBefore good-user count behind (record { few = omega (arith, range); distinct = tt; fit = refl }))
+      (good_items user_format user_fields UsersBefore good-user count behind (record { few = omega (arith, range); distinct = tt; fit = refl; noted = tt }))
       (λ fields users are. record { spelled = short-spelled front count are; are = are.holds }),
 )
 
@@ -72,7 +73,7 @@ pub record AddressesBefore (users : List (List ℕ)) (count : ℕ) (before : Lis
   pub owners : Every (λ (address : List ℕ × Target). is_among address.1.user users ≡ true) before
   pub fit : list_all address_fits before ≡ true
 
-most-few : (users : List (List ℕ)) → most_addresses users ≤ 1024
+pub most-few : (users : List (List ℕ)) → most_addresses users ≤ 1024
 most-few [] = omega arith
 most-few (user ∷ users) = omega arith
 

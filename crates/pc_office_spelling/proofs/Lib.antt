@@ -10,3 +10,7 @@ pub mod GoodKept
 pub mod ReadsKept
 pub mod NewNames
 pub mod GoodTables
+pub mod ReadsTables
+pub mod Limits
+pub mod ReadsRecord
+pub mod GoodRecord
