@@ -14,3 +14,5 @@ pub mod ReadsTables
 pub mod Limits
 pub mod ReadsRecord
 pub mod GoodRecord
+pub mod RecordSize
+pub mod RecordLaws

@@ -1,4 +1,4 @@
-//! The spelling of the post office: how a store writes and reads its entries.
+//! The spelling of the post office: how a store writes and reads its entries and records.
 #![tactic(auto)]
 
 mod entry_fitting;
@@ -6,6 +6,7 @@ mod entry_reading;
 mod entry_writing;
 pub mod laws;
 mod message_reading;
+pub mod record_laws;
 #[cfg(test)]
 mod tests;
 
