@@ -1,5 +1,5 @@
 -- Mails that wait, as they are read.
-use Rattle.std.proofs.Common.{◌≡◌, ℕ, zero, suc, ◌+◌, ◌-◌, ◌*◌, ◌/◌, ◌<◌, ◌≤◌, min, Bool, true, false, cond, not, ◌&&◌, ◌||◌, nat_lt, nat_le, List, [], ◌∷◌, ◌++◌, length, map, refl, sym, ap, subst, ◌∙◌, append_assoc, arith, length-append, true≢false}
+use Rattle.std.proofs.Common.{◌≡◌, ℕ, suc, ◌+◌, ◌-◌, ◌<◌, ◌≤◌, Bool, true, false, cond, not, ◌&&◌, nat_lt, nat_le, List, [], ◌∷◌, ◌++◌, length, refl, sym, ap, subst, ◌∙◌, append_assoc, arith, length-append}
 use Rattle.std.specs.List.{list_all, flat_map, AllByRecursion as Every}
 use Rattle.std.specs.Map.{keys_of}
 use Rattle.std.proofs.lemmas.Bool.{leb-true, leb-false, le-leb, ltb-true, lt-ltb, le-ltb, and_parts, and_from, not-true, or_parts}
@@ -27,12 +27,12 @@ use Rattle.pc_office_history.specs.Step.{is_awaited}
 use Rattle.pc_office_history.specs.Legal.{HasOtherUser, IsUnpulled, IsKept}
 use Rattle.pc_office_spelling.specs.RecordSpelling.{target_fields, kept_fields}
 use Rattle.pc_office_spelling.specs.RecordForm.{target_fits, kept_fits}
-use Rattle.pc_office_spelling.specs.Spaces.{space_beside, space_of, users_of, space_after, space_upto, can_follow, open_users, may_wait, greatest}
+use Rattle.pc_office_spelling.specs.Spaces.{space_of, users_of, space_after, space_upto, can_follow, open_users, may_wait, greatest}
 use Rattle.pc_office_spelling.specs.RecordFormat.{items_from, target_format, kept_format}
 use Rattle.pc_office_spelling.proofs.Items.{AreItems, Next, good_items}
 use Rattle.pc_office_spelling.proofs.Spaces.{Enough, enough_from, follow_from, greatest-most, greatest-passes}
-use Rattle.pc_office_spelling.proofs.Waits.{Rising, is_for, AreFew, behind-long, behind-heavy, enough-least, enough-smaller, enough-behind}
-use Rattle.pc_office_spelling.proofs.OpenUsers.{FreeOne, free_one, open-distinct, open-all, open-below, open-some}
+use Rattle.pc_office_spelling.proofs.Waits.{Rising, AreFew, behind-long, behind-heavy, enough-least, enough-smaller, enough-behind}
+use Rattle.pc_office_spelling.proofs.OpenUsers.{free_one, open-distinct, open-all, open-below, open-some}
 
 -- ---- targets
 
@@ -42,7 +42,7 @@ pub record TargetsBefore (names : List (List ℕ)) (count : ℕ) (before : List 
   pub apart : Ordered HasOtherUser before
   pub fit : list_all target_fits before ≡ true
 
-users-long : (targets : List Target) → length (users_of targets) ≡ length targets
+pub users-long : (targets : List Target) → length (users_of targets) ≡ length targets
 users-long [] = refl
 users-long (target ∷ targets) = ap suc (users-long targets)
 
@@ -95,13 +95,13 @@ all-below : (number : ℕ) (mails : List KeptMail) → list_all (λ (mail : Kept
 all-below number [] all = tt
 all-below number (mail ∷ mails) all = let parts = and_parts (nat_lt mail.number number) (list_all (λ (m : KeptMail). nat_lt m.number number) mails) all in (ltb-true mail.number number parts.0, all-below number mails parts.1)
 
-below-all : (number : ℕ) (mails : List KeptMail) → Every (λ (mail : KeptMail). mail.number < number) mails → list_all (λ (mail : KeptMail). nat_lt mail.number number) mails ≡ true
+pub below-all : (number : ℕ) (mails : List KeptMail) → Every (λ (mail : KeptMail). mail.number < number) mails → list_all (λ (mail : KeptMail). nat_lt mail.number number) mails ≡ true
 below-all number [] below = refl
 below-all number (mail ∷ mails) below = and_from (nat_lt mail.number number) (list_all (λ (m : KeptMail). nat_lt m.number number) mails) (lt-ltb mail.number number below.0) (below-all number mails below.1)
 
-among-targets : (user : List ℕ) (names : List (List ℕ)) (targets : List Target) → Every (λ (target : Target). is_among target.user names ≡ true) targets → Every (λ (name : List ℕ). is_among name names ≡ true) (users_of targets)
-among-targets user names [] among = tt
-among-targets user names (target ∷ targets) among = (among.0, among-targets user names targets among.1)
+pub among-targets : (names : List (List ℕ)) (targets : List Target) → Every (λ (target : Target). is_among target.user names ≡ true) targets → Every (λ (name : List ℕ). is_among name names ≡ true) (users_of targets)
+among-targets names [] among = tt
+among-targets names (target ∷ targets) among = (among.0, among-targets names targets among.1)
 
 all-names : (p : List ℕ → Bool) (names : List (List ℕ)) → Every (λ (name : List ℕ). p name ≡ true) names → list_all p names ≡ true
 all-names p [] all = refl
@@ -172,7 +172,7 @@ module _ (users : List (List ℕ × ℕ)) (accepted : ℕ) (distinct : AreDistin
               elim (is_among user.0 (users_of targets)) as (λ b. is_among user.0 (users_of targets) ≡ b → length (mails_for user.0 (before ++ mail ∷ [])) ≡ length (mails_for user.0 before) + cond b 1 0 → mail_weight (mails_for user.0 (before ++ mail ∷ [])) ≡ mail_weight (mails_for user.0 before) + cond b (weight_of message) 0
                   → (length (mails_for user.0 (before ++ mail ∷ [])) ≤ MOST_WAITING) × (mail_weight (mails_for user.0 (before ++ mail ∷ [])) ≤ MOST_WAITING_WEIGHT)) [
                 | true ↦ λ e l w.
-                    let among = list_all-among (λ (name : List ℕ). is_among name open_now) user.0 (users_of targets) (all-names (λ (name : List ℕ). is_among name open_now) (users_of targets) (among-targets user.0 open_now targets these.among)) e in
+                    let among = list_all-among (λ (name : List ℕ). is_among name open_now) user.0 (users_of targets) (all-names (λ (name : List ℕ). is_among name open_now) (users_of targets) (among-targets open_now targets these.among)) e in
                     let space = ltb-true 0 (space_of before user.0) (open-below (space_of before) number user.0 users distinct among).1 in
                     let fits = leb-true (mail_weight (mails_for user.0 before) + (size_of message + 256)) MOST_WAITING_WEIGHT (list_all-among (λ (name : List ℕ). nat_le (mail_weight (mails_for name before) + (size_of message + 256)) MOST_WAITING_WEIGHT) user.0 (users_of targets) may-parts.0 e) in
                     (omega (arith, l, space), omega (arith, w, fits))

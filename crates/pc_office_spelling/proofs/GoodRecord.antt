@@ -1,10 +1,9 @@
 -- Records as they are read: what is read can be saved, and at each field some record goes on.
-use Rattle.std.proofs.Common.{◌≡◌, ℕ, ◌+◌, ◌<◌, ◌≤◌, ◌&&◌, ◌||◌, nat_lt, nat_le, Bool, true, false, IsTrue, List, [], ◌∷◌, ◌++◌, length, refl, sym, ap, ◌∙◌, append_assoc, arith, length-append}
+use Rattle.std.proofs.Common.{◌≡◌, ℕ, ◌≤◌, ◌&&◌, ◌||◌, nat_le, IsTrue, List, [], ◌∷◌, ◌++◌, length, refl, ap, ◌∙◌, append_assoc, arith, length-append}
 use Rattle.std.specs.List.{list_all, AllByRecursion as Every}
 use Rattle.std.specs.Map.{keys_of}
-use Rattle.std.proofs.lemmas.Bool.{leb-true, le-leb, le-ltb, and_parts, and_from}
+use Rattle.std.proofs.lemmas.Bool.{leb-true, le-ltb, and_parts, and_from}
 use Rattle.pc_history.specs.declared.limits.TheConstants.{LAST_MAIL}
-use Rattle.pc_history.proofs.Uids.{Every-weaker}
 use Rattle.pc_spelling.specs.Spelling.{u32_field, u64_field, short_list, long_list}
 use Rattle.pc_spelling.specs.Format.{Format, ends, goes, bind}
 use Rattle.pc_spelling.specs.Fields.{u64_kind}
@@ -15,12 +14,12 @@ use Rattle.pc_office_history.specs.declared.kept.KeptMail.{KeptMail}
 use Rattle.pc_office_history.specs.Record.{OfficeRecord}
 use Rattle.pc_office_history.specs.Known.{said_by}
 use Rattle.pc_office_history.specs.Limits.{board_weight, IsWithin, limits_of_bases}
-use Rattle.pc_office_history.specs.Legal.{IsWellFormed, IsCanonical}
+use Rattle.pc_office_history.specs.Legal.{IsWellFormed}
 use Rattle.pc_office_history.proofs.Names.{read-off}
 use Rattle.pc_office_spelling.specs.RecordSpelling.{user_fields, address_fields, board_fields, kept_fields, fields_of_record}
 use Rattle.pc_office_spelling.specs.RecordForm.{user_fits, address_fits, board_fits, kept_fits, fits_record, CanBeSaved}
-use Rattle.pc_office_spelling.specs.Spaces.{space_of, can_follow}
-use Rattle.pc_office_spelling.specs.RecordFormat.{items_from, kept_format, users_format, addresses_format, boards_format, kept_list_format, record_format, most_addresses}
+use Rattle.pc_office_spelling.specs.Spaces.{space_of}
+use Rattle.pc_office_spelling.specs.RecordFormat.{items_from, kept_format, users_format, addresses_format, boards_format, kept_list_format, record_format}
 use Rattle.pc_office_spelling.proofs.Items.{AreItems, long-spelled}
 use Rattle.pc_office_spelling.proofs.Spaces.{enough_from}
 use Rattle.pc_office_spelling.proofs.Waits.{AreFew}
@@ -117,15 +116,15 @@ module _ (users : List (List ℕ × ℕ)) (addresses : List (List ℕ × Target)
   record-read = record { spelled = record-spelled; saved = record { canonical = record { well_formed = formed; within = within-limits }; fits = record-fits } }
 
 -- what is read behind the users, the addresses and the boards
-abbrev with_boards : List (List ℕ × ℕ) → List (List ℕ × Target) → Boards → Format OfficeRecord
+abbrev pub with_boards : List (List ℕ × ℕ) → List (List ℕ × Target) → Boards → Format OfficeRecord
 with_boards users addresses boards =
     goes u64_kind (λ accepted. list_all (λ (user : List ℕ × ℕ). nat_le user.1 accepted) users && nat_le accepted LAST_MAIL) (λ accepted.
     bind (kept_list_format users accepted) (λ kept. ends (record { users = users; addresses = addresses; boards = boards; accepted = accepted; kept = kept })))
 
-abbrev with_addresses : List (List ℕ × ℕ) → List (List ℕ × Target) → Format OfficeRecord
+abbrev pub with_addresses : List (List ℕ × ℕ) → List (List ℕ × Target) → Format OfficeRecord
 with_addresses users addresses = bind (boards_format (keys_of users ++ keys_of addresses)) (with_boards users addresses)
 
-abbrev with_users : List (List ℕ × ℕ) → Format OfficeRecord
+abbrev pub with_users : List (List ℕ × ℕ) → Format OfficeRecord
 with_users users = bind (addresses_format (keys_of users)) (with_addresses users)
 
 pub good_record : Good IsReadRecord record_format []

@@ -1,11 +1,11 @@
 -- Users, addresses and boards, as they are read.
-use Rattle.std.proofs.Common.{◌≡◌, ℕ, zero, suc, ◌+◌, ◌-◌, ◌*◌, ◌/◌, ◌<◌, ◌≤◌, min, Bool, true, false, not, ◌&&◌, ◌||◌, nat_le, List, [], ◌∷◌, ◌++◌, length, refl, sym, ap, subst, ◌∙◌, append_assoc, arith, length-append}
-use Rattle.std.specs.List.{list_all, flat_map, AllByRecursion as Every}
+use Rattle.std.proofs.Common.{◌≡◌, ℕ, suc, ◌+◌, ◌-◌, ◌*◌, ◌/◌, ◌<◌, ◌≤◌, min, Bool, true, false, not, ◌||◌, List, [], ◌∷◌, ◌++◌, length, refl, sym, ap, subst, ◌∙◌, append_assoc, arith, length-append}
+use Rattle.std.specs.List.{list_all, AllByRecursion as Every}
 use Rattle.std.specs.Map.{keys_of}
-use Rattle.std.proofs.lemmas.Bool.{leb-true, le-leb, and_parts, and_from, not-true, or_parts}
+use Rattle.std.proofs.lemmas.Bool.{and_parts, and_from, not-true, or_parts}
 use Rattle.std.proofs.lemmas.List.Folds.{list_any-append}
 use Rattle.pc_base.specs.Name.{is_name}
-use Rattle.pc_message.specs.Message.{size_of, weight_of}
+use Rattle.pc_message.specs.Message.{weight_of}
 use Rattle.pc_history.specs.Table.{same, is_among, total}
 use Rattle.pc_history.specs.Legal.{AreDistinct}
 use Rattle.pc_history.proofs.Tables.{same-refl}
@@ -13,7 +13,7 @@ use Rattle.pc_history.proofs.Uids.{Every-append}
 use Rattle.pc_history.proofs.Numbers.{total-append}
 use Rattle.pc_spelling.specs.Spelling.{u16_field, u32_field, u64_field, name_field, message_fields, short_list, long_list}
 use Rattle.pc_spelling.specs.EntryForm.{is_message}
-use Rattle.pc_spelling.specs.Format.{ends, bind}
+use Rattle.pc_spelling.specs.Format.{ends}
 use Rattle.pc_spelling.specs.RecordFormat.{is_new, message_within}
 use Rattle.pc_spelling.proofs.Good.{Good, good_bind, good_weaker}
 use Rattle.pc_spelling.proofs.GoodMessages.{IsReadMessage, good_message}

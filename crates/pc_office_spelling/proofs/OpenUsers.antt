@@ -1,9 +1,9 @@
 -- The users for whom a mail may wait, and names that are left among others.
-use Rattle.std.proofs.Common.{◌≡◌, ℕ, suc, ◌+◌, ◌<◌, ◌≤◌, Bool, true, false, cond, not, ◌&&◌, ◌||◌, nat_lt, List, [], ◌∷◌, length, filter, Option, Some, MatchOption, refl, sym, ap, subst, ◌∙◌, arith, true≢false}
+use Rattle.std.proofs.Common.{◌≡◌, ℕ, suc, ◌+◌, ◌<◌, ◌≤◌, Bool, true, false, cond, not, ◌&&◌, ◌||◌, nat_lt, List, [], ◌∷◌, length, filter, Some, MatchOption, refl, sym, ap, ◌∙◌, arith, true≢false}
 use Rattle.std.specs.List.{list_all, AllByRecursion as Every}
 use Rattle.std.specs.Map.{lookup, keys_of}
 use Rattle.std.proofs.lemmas.Bool.{ltb-true, ltb-false, lt-ltb, and_parts, and_from}
-use Rattle.pc_history.specs.Table.{same, is_among, other_names, total}
+use Rattle.pc_history.specs.Table.{same, is_among, other_names}
 use Rattle.pc_history.specs.Legal.{AreDistinct}
 use Rattle.pc_history.proofs.Tables.{same-true, same-refl, same-sym}
 use Rattle.pc_history.proofs.Numbers.{total-among, length-ones, length-filter-le}
@@ -11,7 +11,7 @@ use Rattle.pc_spelling.proofs.GoodTables.{length-keys}
 use Rattle.pc_office_spelling.specs.Spaces.{space_upto, open_users}
 use Rattle.pc_office_spelling.proofs.Waits.{IsBelow}
 
-or-second : (a b : Bool) → b ≡ true → (a || b) ≡ true
+pub or-second : (a b : Bool) → b ≡ true → (a || b) ≡ true
 or-second true b h = refl
 or-second false b h = h
 

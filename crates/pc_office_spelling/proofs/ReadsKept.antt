@@ -1,7 +1,7 @@
 -- The fields of mails that wait are read as them.
-use Rattle.std.proofs.Common.{◌≡◌, ℕ, suc, ◌+◌, ◌<◌, ◌≤◌, Bool, true, false, cond, not, ◌&&◌, ◌||◌, nat_lt, nat_le, List, [], ◌∷◌, ◌++◌, length, Option, Some, MatchOption, refl, sym, ap, subst, ◌∙◌, append_assoc, arith, length-append, true≢false}
+use Rattle.std.proofs.Common.{◌≡◌, ℕ, ◌+◌, ◌<◌, ◌≤◌, Bool, true, false, cond, not, ◌&&◌, ◌||◌, nat_lt, nat_le, List, [], ◌∷◌, ◌++◌, length, Some, MatchOption, refl, sym, ap, subst, ◌∙◌, append_assoc, arith, length-append, true≢false}
 use Rattle.std.specs.List.{list_all, flat_map, AllByRecursion as Every}
-use Rattle.std.specs.Map.{lookup, keys_of}
+use Rattle.std.specs.Map.{lookup}
 use Rattle.std.proofs.lemmas.Bool.{leb-true, le-leb, lt-ltb, and_parts, and_from}
 use Rattle.pc_base.specs.Name.{is_name}
 use Rattle.pc_base.specs.Line.{is_line}
@@ -34,11 +34,8 @@ use Rattle.pc_office_spelling.proofs.Names.{ending}
 use Rattle.pc_office_spelling.proofs.Items.{reads_items}
 use Rattle.pc_office_spelling.proofs.Spaces.{follow_from, greatest-least}
 use Rattle.pc_office_spelling.proofs.Waits.{Rising, is_for, IsBelow, AreFew, front-long, behind-heavy, space-for, rising-room, enough-rest, enough-many, enough-before}
-use Rattle.pc_office_spelling.proofs.OpenUsers.{among-count, open-few, below-open}
-
-or-second : (a b : Bool) → b ≡ true → (a || b) ≡ true
-or-second true b h = refl
-or-second false b h = h
+use Rattle.pc_office_spelling.proofs.OpenUsers.{or-second, among-count, open-few, below-open}
+use Rattle.pc_office_spelling.proofs.GoodKept.{users-long, among-targets, below-all}
 
 -- ---- targets
 
@@ -77,14 +74,6 @@ distinct-users (target ∷ targets) apart = (moved targets apart.0, distinct-use
     moved : (some : List Target) → Every (HasOtherUser target) some → Every (λ (later : List ℕ). same target.user later ≡ false) (users_of some)
     moved [] all = tt
     moved (one ∷ some) all = (all.0, moved some all.1)
-
-users-among : (names : List (List ℕ)) (targets : List Target) → Every (λ (target : Target). is_among target.user names ≡ true) targets → Every (λ (name : List ℕ). is_among name names ≡ true) (users_of targets)
-users-among names [] among = tt
-users-among names (target ∷ targets) among = (among.0, users-among names targets among.1)
-
-users-long : (targets : List Target) → length (users_of targets) ≡ length targets
-users-long [] = refl
-users-long (target ∷ targets) = ap suc (users-long targets)
 
 self-among : (targets : List Target) → Every (λ (target : Target). is_among target.user (users_of targets) ≡ true) targets
 self-among [] = tt
@@ -125,10 +114,6 @@ some-length : (targets : List Target) → is_awaited targets ≡ true → 0 < le
 some-length [] h = absurd (true≢false (sym h))
 some-length (target ∷ targets) h = omega arith
 
-all-lower : (number : ℕ) (mails : List KeptMail) → Every (λ (mail : KeptMail). mail.number < number) mails → list_all (λ (mail : KeptMail). nat_lt mail.number number) mails ≡ true
-all-lower number [] below = refl
-all-lower number (mail ∷ mails) below = and_from (nat_lt mail.number number) (list_all (λ (m : KeptMail). nat_lt m.number number) mails) (lt-ltb mail.number number below.0) (all-lower number mails below.1)
-
 module _ (users : List (List ℕ × ℕ)) (accepted : ℕ) (noted : Every (λ (user : List ℕ × ℕ). user.1 ≤ accepted) users) (small : accepted ≤ 9223372036854775807) (few-users : length users ≤ 32) where
   module _ (before rest : List KeptMail) (mail : KeptMail) (left : KeptLeft users accepted before (mail ∷ rest)) where
     abbrev opens : List (List ℕ)
@@ -151,7 +136,7 @@ module _ (users : List (List ℕ × ℕ)) (accepted : ℕ) (noted : Every (λ (u
 
     many-open : length mail.targets ≤ length opens
     many-open =
-        let most = among-count (users_of mail.targets) opens (distinct-users mail.targets is-kept.apart) (users-among opens mail.targets open-targets) in
+        let most = among-count (users_of mail.targets) opens (distinct-users mail.targets is-kept.apart) (among-targets opens mail.targets open-targets) in
         let long = users-long mail.targets in
         omega (arith, most, long)
 
@@ -192,7 +177,7 @@ module _ (users : List (List ℕ × ℕ)) (accepted : ℕ) (noted : Every (λ (u
         let below = Every-weaker (λ (m : KeptMail). Every (λ (later : KeptMail). m.number < later.number) (mail ∷ rest)) (λ (m : KeptMail). m.number < mail.number) (λ m all. all.0) before left.below in
         let room = rising-room users accepted mail.number rest is-kept.so_far left.rising.0 left.rising.1 left.kept.1 in
         and_from (list_all (λ (m : KeptMail). nat_lt m.number mail.number) before && nat_le (mail.number + length rest) accepted) (nat_lt 0 (length opens))
-        (and_from (list_all (λ (m : KeptMail). nat_lt m.number mail.number) before) (nat_le (mail.number + length rest) accepted) (all-lower mail.number before below) (le-leb (mail.number + length rest) accepted room))
+        (and_from (list_all (λ (m : KeptMail). nat_lt m.number mail.number) before) (nat_le (mail.number + length rest) accepted) (below-all mail.number before below) (le-leb (mail.number + length rest) accepted room))
         (lt-ltb 0 (length opens) (omega (arith, some, many)))
 
     many-test : (nat_lt 0 (length mail.targets) && nat_le (length mail.targets) (length opens) && can_follow (space_of before) users accepted (length rest) (length mail.targets)) ≡ true

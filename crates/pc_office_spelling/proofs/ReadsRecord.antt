@@ -1,17 +1,14 @@
 -- The fields of a record that can be saved are read as it.
-use Rattle.std.proofs.Common.{◌≡◌, ℕ, ◌+◌, ◌*◌, ◌<◌, ◌≤◌, ◌&&◌, ◌||◌, nat_lt, nat_le, true, false, List, [], ◌∷◌, ◌++◌, length, refl, sym, ap, subst, ◌∙◌, append_assoc, arith, le_trans}
-use Rattle.std.specs.List.{list_all, list_any, AllByRecursion as Every}
+use Rattle.std.proofs.Common.{◌≡◌, ℕ, ◌≤◌, ◌&&◌, nat_lt, nat_le, true, false, List, [], ◌∷◌, ◌++◌, length, refl, sym, subst, ◌∙◌, append_assoc, arith, le_trans}
+use Rattle.std.specs.List.{list_all, list_any}
 use Rattle.std.specs.Map.{keys_of}
 use Rattle.std.proofs.lemmas.Bool.{ltb-false, lt-ltb, le-leb, or_parts, and_parts, and_from}
 use Rattle.pc_history.specs.declared.limits.TheConstants.{LAST_MAIL}
 use Rattle.pc_history.proofs.Uids.{Every-weaker}
 use Rattle.pc_spelling.specs.Spelling.{u64_field, short_list, long_list}
-use Rattle.pc_spelling.specs.Format.{Format, ends, goes, bind}
-use Rattle.pc_spelling.specs.Fields.{u64_kind}
 use Rattle.pc_spelling.proofs.Formats.{ReadsAs, reads_bind}
 use Rattle.pc_spelling.proofs.GoodTables.{length-keys}
 use Rattle.pc_office_history.specs.declared.limits.TheConstants.{MOST_BOARD_MESSAGES, MOST_BOARD_WEIGHT}
-use Rattle.pc_office_history.specs.declared.kept.Target.{Target}
 use Rattle.pc_office_history.specs.Record.{OfficeRecord, mails_for}
 use Rattle.pc_office_history.specs.Known.{said_by}
 use Rattle.pc_office_history.specs.Limits.{are_too_many, board_weight}
@@ -24,39 +21,28 @@ use Rattle.pc_office_spelling.specs.RecordFormat.{users_format, addresses_format
 use Rattle.pc_office_spelling.proofs.Names.{ending}
 use Rattle.pc_office_spelling.proofs.Spaces.{follow_from}
 use Rattle.pc_office_spelling.proofs.Waits.{AreFew, enough-rest}
-use Rattle.pc_office_spelling.proofs.Limits.{Boards, few-each, short-each, distinct-first, distinct-second, distinct-apart, apart-both, each-noted}
+use Rattle.pc_office_spelling.proofs.Limits.{few-each, short-each, distinct-first, distinct-second, distinct-apart, apart-both, each-noted}
 use Rattle.pc_office_spelling.proofs.ReadsTables.{reads_users, reads_addresses, reads_boards}
 use Rattle.pc_office_spelling.proofs.ReadsKept.{reads_kept}
-
--- what is read behind the users, the addresses and the boards
-abbrev with_boards : List (List ℕ × ℕ) → List (List ℕ × Target) → Boards → Format OfficeRecord
-with_boards users addresses boards =
-    goes u64_kind (λ accepted. list_all (λ (user : List ℕ × ℕ). nat_le user.1 accepted) users && nat_le accepted LAST_MAIL) (λ accepted.
-    bind (kept_list_format users accepted) (λ kept. ends (record { users = users; addresses = addresses; boards = boards; accepted = accepted; kept = kept })))
-
-abbrev with_addresses : List (List ℕ × ℕ) → List (List ℕ × Target) → Format OfficeRecord
-with_addresses users addresses = bind (boards_format (keys_of users ++ keys_of addresses)) (with_boards users addresses)
-
-abbrev with_users : List (List ℕ × ℕ) → Format OfficeRecord
-with_users users = bind (addresses_format (keys_of users)) (with_addresses users)
+use Rattle.pc_office_spelling.proofs.GoodRecord.{with_users, with_addresses, with_boards}
 
 module _ (r : OfficeRecord) (saved : CanBeSaved r) where
-  few-users : length r.users ≤ 32
+  pub few-users : length r.users ≤ 32
   few-users = let keys = length-keys r.users in let few = ltb-false 32 (length (keys_of r.users)) saved.canonical.within.0 in omega (arith, keys, few)
 
-  few-boards : length r.boards ≤ 64
+  pub few-boards : length r.boards ≤ 64
   few-boards = let keys = length-keys r.boards in let few = ltb-false 64 (length (keys_of r.boards)) saved.canonical.within.1.0 in omega (arith, keys, few)
 
-  few-addresses : length r.addresses ≤ 1024
+  pub few-addresses : length r.addresses ≤ 1024
   few-addresses = let keys = length-keys r.addresses in let few = ltb-false 1024 (length (keys_of r.addresses)) saved.canonical.within.1.1.0 in omega (arith, keys, few)
 
   few-waiting : AreFew r.users r.kept
   few-waiting = few-each r.users r.kept (or_parts (list_any (λ user. are_too_many (mails_for user r.kept)) (keys_of r.users)) (nat_lt LAST_MAIL r.accepted) saved.canonical.within.1.1.1.0).0
 
-  board-parts : (list_any (λ board. nat_lt MOST_BOARD_MESSAGES (length ((said_by r).messages board))) (keys_of r.boards) ≡ false) × (nat_lt MOST_BOARD_WEIGHT (board_weight (said_by r)) ≡ false)
+  pub board-parts : (list_any (λ board. nat_lt MOST_BOARD_MESSAGES (length ((said_by r).messages board))) (keys_of r.boards) ≡ false) × (nat_lt MOST_BOARD_WEIGHT (board_weight (said_by r)) ≡ false)
   board-parts = or_parts (list_any (λ board. nat_lt MOST_BOARD_MESSAGES (length ((said_by r).messages board))) (keys_of r.boards)) (nat_lt MOST_BOARD_WEIGHT (board_weight (said_by r))) saved.canonical.within.1.1.1.1.0
 
-  fits-parts : (list_all user_fits r.users ≡ true) × (list_all address_fits r.addresses ≡ true) × (list_all board_fits r.boards ≡ true) × (list_all kept_fits r.kept ≡ true)
+  pub fits-parts : (list_all user_fits r.users ≡ true) × (list_all address_fits r.addresses ≡ true) × (list_all board_fits r.boards ≡ true) × (list_all kept_fits r.kept ≡ true)
   fits-parts =
       let first = and_parts (list_all user_fits r.users && list_all address_fits r.addresses && list_all board_fits r.boards) (list_all kept_fits r.kept) saved.fits in
       let second = and_parts (list_all user_fits r.users && list_all address_fits r.addresses) (list_all board_fits r.boards) first.0 in

@@ -1,8 +1,8 @@
 -- The fields of users, addresses and boards are read as them.
-use Rattle.std.proofs.Common.{◌≡◌, ℕ, suc, ◌+◌, ◌-◌, ◌*◌, ◌/◌, ◌<◌, ◌≤◌, min, Bool, true, false, not, ◌&&◌, ◌||◌, nat_le, List, [], ◌∷◌, ◌++◌, length, refl, sym, ap, subst, ◌∙◌, append_assoc, arith}
+use Rattle.std.proofs.Common.{◌≡◌, ℕ, suc, ◌+◌, ◌-◌, ◌*◌, ◌/◌, ◌≤◌, min, Bool, true, false, not, ◌||◌, nat_le, List, [], ◌∷◌, ◌++◌, length, refl, sym, ap, subst, ◌∙◌, append_assoc, arith}
 use Rattle.std.specs.List.{list_all, flat_map, AllByRecursion as Every}
 use Rattle.std.specs.Map.{keys_of}
-use Rattle.std.proofs.lemmas.Bool.{leb-true, lt-ltb, and_parts, and_from}
+use Rattle.std.proofs.lemmas.Bool.{leb-true, lt-ltb, and_parts}
 use Rattle.std.proofs.lemmas.List.Folds.{list_any-append}
 use Rattle.pc_base.specs.Name.{is_name}
 use Rattle.pc_base.specs.Line.{is_line}
@@ -11,15 +11,13 @@ use Rattle.pc_history.specs.Table.{same, is_among, total}
 use Rattle.pc_history.specs.Legal.{AreDistinct}
 use Rattle.pc_history.proofs.Tables.{same-sym}
 use Rattle.pc_history.proofs.Numbers.{total-append}
-use Rattle.pc_spelling.specs.Spelling.{name_field, u32_field, message_fields, short_list, long_list}
+use Rattle.pc_spelling.specs.Spelling.{message_fields, short_list}
 use Rattle.pc_spelling.specs.EntryForm.{is_message}
-use Rattle.pc_spelling.specs.Format.{ends, bind}
-use Rattle.pc_spelling.specs.RecordFormat.{is_new, message_within}
 use Rattle.pc_spelling.proofs.Formats.{ReadsAs}
 use Rattle.pc_spelling.proofs.GoodTables.{is-within}
 use Rattle.pc_spelling.proofs.ReadsMessages.{reads_message}
 use Rattle.pc_office_history.specs.declared.kept.Target.{Target}
-use Rattle.pc_office_spelling.specs.RecordSpelling.{user_fields, target_fields, address_fields, board_fields}
+use Rattle.pc_office_spelling.specs.RecordSpelling.{user_fields, address_fields, board_fields}
 use Rattle.pc_office_spelling.specs.RecordForm.{user_fits, target_fits, address_fits, board_fits}
 use Rattle.pc_office_spelling.specs.RecordFormat.{items_from, user_format, users_format, address_format, most_addresses, addresses_format, message_format, weight_on, board_format, boards_format}
 use Rattle.pc_office_spelling.proofs.Names.{ending}

@@ -1,18 +1,15 @@
 -- How many bytes a record takes.
-use Rattle.std.proofs.Common.{◌≡◌, ℕ, suc, ◌+◌, ◌*◌, ◌≤◌, ◌&&◌, nat_lt, true, List, [], ◌∷◌, ◌++◌, length, ap, ◌∙◌, arith, length-append}
+use Rattle.std.proofs.Common.{◌≡◌, ℕ, ◌+◌, ◌*◌, ◌≤◌, true, List, [], ◌∷◌, ◌++◌, length, ap, ◌∙◌, arith, length-append}
 use Rattle.std.specs.List.{list_all, flat_map, concat}
-use Rattle.std.specs.Map.{keys_of}
-use Rattle.std.proofs.lemmas.Bool.{ltb-false, or_parts, and_parts}
-use Rattle.std.specs.List.{list_any}
+use Rattle.std.proofs.lemmas.Bool.{ltb-false, and_parts}
 use Rattle.pc_base.specs.Name.{is_name}
-use Rattle.pc_message.specs.Message.{size_of, weight_of}
+use Rattle.pc_message.specs.Message.{weight_of}
 use Rattle.pc_history.specs.Table.{total}
 use Rattle.pc_spelling.specs.Spelling.{u16_field, u32_field, u64_field, name_field, message_fields, short_list, long_list}
 use Rattle.pc_spelling.specs.EntryForm.{is_message}
 use Rattle.pc_spelling.proofs.Loops.{concat-append}
-use Rattle.pc_spelling.proofs.GoodTables.{length-keys}
 use Rattle.pc_spelling.proofs.RecordSize.{name-short}
-use Rattle.pc_office_history.specs.declared.limits.TheConstants.{MOST_BOARD_MESSAGES, MOST_BOARD_WEIGHT}
+use Rattle.pc_office_history.specs.declared.limits.TheConstants.{MOST_BOARD_WEIGHT}
 use Rattle.pc_office_history.specs.declared.kept.Target.{Target}
 use Rattle.pc_office_history.specs.declared.kept.KeptMail.{KeptMail}
 use Rattle.pc_office_history.specs.Record.{OfficeRecord}
@@ -25,6 +22,7 @@ use Rattle.pc_office_spelling.specs.RecordForm.{user_fits, target_fits, address_
 use Rattle.pc_office_spelling.specs.RecordFormat.{weight_on}
 use Rattle.pc_office_spelling.proofs.EntryLaws.{u16-long, u32-long, u64-long, message-long}
 use Rattle.pc_office_spelling.proofs.Limits.{Boards}
+use Rattle.pc_office_spelling.proofs.ReadsRecord.{few-users, few-boards, few-addresses, board-parts, fits-parts}
 
 -- how many bytes fields take
 abbrev bytes : List (List ℕ) → ℕ
@@ -118,42 +116,32 @@ kept-long (mail ∷ kept) fit =
     omega (arith, both, number, eight, inner, count, two, targets, message, rest)
 
 module _ (r : OfficeRecord) (saved : CanBeSaved r) where
-  fits-parts : (list_all user_fits r.users ≡ true) × (list_all address_fits r.addresses ≡ true) × (list_all board_fits r.boards ≡ true) × (list_all kept_fits r.kept ≡ true)
-  fits-parts =
-      let first = and_parts (list_all user_fits r.users && list_all address_fits r.addresses && list_all board_fits r.boards) (list_all kept_fits r.kept) saved.fits in
-      let second = and_parts (list_all user_fits r.users && list_all address_fits r.addresses) (list_all board_fits r.boards) first.0 in
-      let third = and_parts (list_all user_fits r.users) (list_all address_fits r.addresses) second.0 in
-      (third.0, third.1, second.1, first.1)
-
   users-bytes : bytes (short_list user_fields r.users) ≤ 1314
   users-bytes =
-      let keys = length-keys r.users in
-      let few = ltb-false 32 (length (keys_of r.users)) saved.canonical.within.0 in
+      let few = few-users r saved in
       let count = bytes-more (u16_field (length r.users)) (flat_map user_fields r.users) in
       let two = u16-long (length r.users) in
-      let long = users-long r.users fits-parts.0 in
-      omega (arith, keys, few, count, two, long)
+      let long = users-long r.users (fits-parts r saved).0 in
+      omega (arith, few, count, two, long)
 
   boards-bytes : bytes (short_list board_fields r.boards) ≤ 67111234
   boards-bytes =
-      let keys = length-keys r.boards in
-      let few = ltb-false 64 (length (keys_of r.boards)) saved.canonical.within.1.0 in
+      let few = few-boards r saved in
       let off = read-off r saved.canonical.well_formed in
       let weight = off.weight in
-      let light = ltb-false MOST_BOARD_WEIGHT (board_weight (said_by r)) (or_parts (list_any (λ board. nat_lt MOST_BOARD_MESSAGES (length ((said_by r).messages board))) (keys_of r.boards)) (nat_lt MOST_BOARD_WEIGHT (board_weight (said_by r))) saved.canonical.within.1.1.1.1.0).1 in
+      let light = ltb-false MOST_BOARD_WEIGHT (board_weight (said_by r)) (board-parts r saved).1 in
       let count = bytes-more (u16_field (length r.boards)) (flat_map board_fields r.boards) in
       let two = u16-long (length r.boards) in
-      let long = boards-long r.boards fits-parts.2 in
-      omega (arith, keys, few, weight, light, count, two, long)
+      let long = boards-long r.boards (fits-parts r saved).2 in
+      omega (arith, few, weight, light, count, two, long)
 
   addresses-bytes : bytes (short_list address_fields r.addresses) ≤ 101378
   addresses-bytes =
-      let keys = length-keys r.addresses in
-      let few = ltb-false 1024 (length (keys_of r.addresses)) saved.canonical.within.1.1.0 in
+      let few = few-addresses r saved in
       let count = bytes-more (u16_field (length r.addresses)) (flat_map address_fields r.addresses) in
       let two = u16-long (length r.addresses) in
-      let long = addresses-long r.addresses fits-parts.1 in
-      omega (arith, keys, few, count, two, long)
+      let long = addresses-long r.addresses (fits-parts r saved).1 in
+      omega (arith, few, count, two, long)
 
   kept-bytes : bytes (long_list kept_fields r.kept) ≤ 136708100
   kept-bytes =
@@ -163,7 +151,7 @@ module _ (r : OfficeRecord) (saved : CanBeSaved r) where
       let weight = is.weight in
       let count = bytes-more (u32_field (length r.kept)) (flat_map kept_fields r.kept) in
       let four = u32-long (length r.kept) in
-      let long = kept-long r.kept fits-parts.3 in
+      let long = kept-long r.kept (fits-parts r saved).3 in
       omega (arith, mails, targets, weight, count, four, long)
 
   record-bytes : length (spelled_record r) ≤ 1073741824

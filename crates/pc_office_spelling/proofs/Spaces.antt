@@ -1,31 +1,32 @@
 -- For how many mails more there is space.
-use Rattle.std.proofs.Common.{◌≡◌, ℕ, zero, suc, ◌+◌, ◌-◌, ◌/◌, ◌<◌, ◌≤◌, min, Bool, true, false, cond, ◌&&◌, ◌||◌, ◌==◌, nat_lt, nat_le, List, [], ◌∷◌, ◌++◌, length, Option, None, Some, MatchOption, refl, sym, ap, subst, ◌∙◌, arith, ◌⊎◌, inl, inr, true≢false}
+use Rattle.std.proofs.Common.{◌≡◌, ℕ, zero, suc, ◌+◌, ◌-◌, ◌<◌, ◌≤◌, Bool, true, false, cond, ◌&&◌, ◌||◌, ◌==◌, nat_lt, nat_le, List, [], ◌∷◌, Some, MatchOption, refl, sym, ap, subst, ◌∙◌, arith, ◌⊎◌, inl, inr, true≢false}
 use Rattle.std.specs.List.{list_all, list_any, AllByRecursion as Every}
 use Rattle.std.specs.Map.{lookup, keys_of}
-use Rattle.std.proofs.lemmas.Bool.{leb-true, le-leb, leb-false, ltb-true, lt-ltb, ltb-false, le-ltb, eqb-true, eqb-false, eq-eqb, or_parts}
-use Rattle.pc_history.specs.Table.{same, total}
+use Rattle.std.proofs.lemmas.Bool.{leb-true, le-leb, leb-false, ltb-true, lt-ltb, ltb-false, eqb-true, eqb-false, or_parts, and_parts, and_from}
+use Rattle.pc_history.specs.Table.{same}
 use Rattle.pc_history.specs.Legal.{AreDistinct}
-use Rattle.pc_history.proofs.Tables.{same-true, same-refl, same-sym}
-use Rattle.pc_office_spelling.specs.Spaces.{space_beside, space_upto, can_follow, greatest}
+use Rattle.pc_history.proofs.Tables.{same-true, same-sym}
+use Rattle.pc_history.proofs.Uids.{Every-from}
+use Rattle.pc_office_spelling.specs.Spaces.{space_upto, can_follow, greatest}
 
 -- one of two tests passes
 or-split : (a b : Bool) → (a || b) ≡ true → (a ≡ true) ⊎ (b ≡ true)
 or-split true b h = inl refl
 or-split false b h = inr h
 
-or-second : (a b : Bool) → b ≡ true → (a || b) ≡ true
-or-second true b h = refl
-or-second false b h = h
-
-pub every : {X : Type 0} (P : X → Type 0) → ((x : X) → P x) → (xs : List X) → Every P xs
-every P all [] = tt
-every P all (x ∷ xs) = (all x, every P all xs)
-
 -- ---- sums over the users of whom less is noted
 
 cond-le : (b : Bool) (m n : ℕ) → m ≤ n → cond b m 0 ≤ cond b n 0
 cond-le true m n le = le
 cond-le false m n le = omega arith
+
+pub cond-none : (b : Bool) → ◌≡◌ {A = ℕ} (cond b 0 0) 0
+cond-none true = refl
+cond-none false = refl
+
+pub cond-one : (b : Bool) → cond b 1 0 ≤ 1
+cond-one true = omega arith
+cond-one false = omega arith
 
 cond-sum : (b : Bool) (m n : ℕ) → cond b (m + n) 0 ≡ cond b m 0 + cond b n 0
 cond-sum true m n = refl
@@ -56,7 +57,7 @@ module _ (number : ℕ) where
             let name = same-true one user.0 e in
             let mine : f user.0 + more ≤ g user.0 = subst (λ (n : List ℕ). f n + more ≤ g n) name here in
             let counted = lt-ltb user.1 number low in
-            let rest = upto-le f g users (every (λ (other : List ℕ × ℕ). f other.0 ≤ g other.0) (λ other. le other.0) users) in
+            let rest = upto-le f g users (Every-from (λ (other : List ℕ × ℕ). f other.0 ≤ g other.0) (λ other. le other.0) users) in
             rw counted (omega (arith, mine, rest))
         | false ↦ λ e low.
             let first = cond-le (nat_lt user.1 number) (f user.0) (g user.0) (le user.0) in
@@ -70,12 +71,8 @@ module _ (number : ℕ) where
   none-upto name (user ∷ users) others =
       let here : same user.0 name ≡ false = same-sym user.0 name ∙ others.0 in
       let rest = none-upto name users others.1 in
-      let first : ◌≡◌ {A = ℕ} (cond (nat_lt user.1 number) (cond (same user.0 name) 1 0) 0) 0 = rw here (zeros (nat_lt user.1 number)) in
+      let first : ◌≡◌ {A = ℕ} (cond (nat_lt user.1 number) (cond (same user.0 name) 1 0) 0) 0 = rw here (cond-none (nat_lt user.1 number)) in
       omega (arith, first, rest)
-    where
-      zeros : (b : Bool) → ◌≡◌ {A = ℕ} (cond b 0 0) 0
-      zeros true = refl
-      zeros false = refl
 
   -- a name is counted once
   pub once-upto : (name : List ℕ) (users : List (List ℕ × ℕ)) → AreDistinct (keys_of users) → space_upto (λ user. cond (same user name) 1 0) users number ≤ 1
@@ -85,21 +82,13 @@ module _ (number : ℕ) where
         | true ↦ λ e.
             let is = same-true user.0 name e in
             let none = none-upto name users (subst (λ (n : List ℕ). Every (λ (other : List ℕ). same n other ≡ false) (keys_of users)) is distinct.0) in
-            let one = at-most (nat_lt user.1 number) in
+            let one = cond-one (nat_lt user.1 number) in
             omega (arith, none, one)
         | false ↦ λ e.
             let rest = once-upto name users distinct.1 in
-            let none = nothing (nat_lt user.1 number) in
+            let none = cond-none (nat_lt user.1 number) in
             omega (arith, rest, none)
       ] refl
-    where
-      at-most : (b : Bool) → cond b 1 0 ≤ 1
-      at-most true = omega arith
-      at-most false = omega arith
-
-      nothing : (b : Bool) → ◌≡◌ {A = ℕ} (cond b 0 0) 0
-      nothing true = refl
-      nothing false = refl
 
 -- ---- the test at each number
 
@@ -112,17 +101,9 @@ is-noted : (p : ℕ → Bool) (number : ℕ) (users : List (List ℕ × ℕ)) �
 is-noted p number [] all any = absurd (true≢false (sym any))
 is-noted p number (user ∷ users) all any =
     elim (or-split (user.1 == number) (list_any (λ (other : List ℕ × ℕ). other.1 == number) users) any) [
-      | inl here ↦ subst (λ (n : ℕ). p n ≡ true) (eqb-true user.1 number here) (first (p user.1) (list_all (λ (other : List ℕ × ℕ). p other.1) users) all)
-      | inr there ↦ is-noted p number users (second (p user.1) (list_all (λ (other : List ℕ × ℕ). p other.1) users) all) there
+      | inl here ↦ subst (λ (n : ℕ). p n ≡ true) (eqb-true user.1 number here) (and_parts (p user.1) (list_all (λ (other : List ℕ × ℕ). p other.1) users) all).0
+      | inr there ↦ is-noted p number users (and_parts (p user.1) (list_all (λ (other : List ℕ × ℕ). p other.1) users) all).1 there
     ]
-  where
-    first : (a b : Bool) → (a && b) ≡ true → a ≡ true
-    first true b h = refl
-    first false b h = absurd (true≢false (sym h))
-
-    second : (a b : Bool) → (a && b) ≡ true → b ≡ true
-    second true b h = h
-    second false b h = absurd (true≢false (sym h))
 
 -- where it is noted of nobody, there is as much space up to the next number
 next-space : (space : List ℕ → ℕ) (number : ℕ) (users : List (List ℕ × ℕ)) → list_any (λ (user : List ℕ × ℕ). user.1 == number) users ≡ false → space_upto space users (suc number) ≡ space_upto space users number
@@ -169,22 +150,13 @@ module _ (space : List ℕ → ℕ) (users : List (List ℕ × ℕ)) (accepted c
       elim (or-split (count == 0) (nat_le (count + taken) (space_upto space users accepted) && list_all (λ (user : List ℕ × ℕ). Holds user.1) users) passes) [
         | inl none ↦ absurd (let is = eqb-true count 0 none in omega (arith, is, upto, past))
         | inr rest ↦
-            let parts = split (nat_le (count + taken) (space_upto space users accepted)) (list_all (λ (user : List ℕ × ℕ). Holds user.1) users) rest in
+            let parts = and_parts (nat_le (count + taken) (space_upto space users accepted)) (list_all (λ (user : List ℕ × ℕ). Holds user.1) users) rest in
             enough-down parts.0 parts.1 (accepted - number) number (omega (arith, upto)) past
       ]
-    where
-      split : (a b : Bool) → (a && b) ≡ true → (a ≡ true) × (b ≡ true)
-      split true true h = (refl, refl)
-      split true false h = absurd (true≢false (sym h))
-      split false b h = absurd (true≢false (sym h))
 
   all-hold : ((number : ℕ) → number ≤ accepted → Holds number ≡ true) → (some : List (List ℕ × ℕ)) → Every (λ (user : List ℕ × ℕ). user.1 ≤ accepted) some → list_all (λ (user : List ℕ × ℕ). Holds user.1) some ≡ true
   all-hold hold [] noted = refl
-  all-hold hold (user ∷ some) noted = both (Holds user.1) (list_all (λ (other : List ℕ × ℕ). Holds other.1) some) (hold user.1 noted.0) (all-hold hold some noted.1)
-    where
-      both : (a b : Bool) → a ≡ true → b ≡ true → (a && b) ≡ true
-      both true b f g = g
-      both false b f g = absurd (true≢false (sym f))
+  all-hold hold (user ∷ some) noted = and_from (Holds user.1) (list_all (λ (other : List ℕ × ℕ). Holds other.1) some) (hold user.1 noted.0) (all-hold hold some noted.1)
 
   pub follow_from : Every (λ (user : List ℕ × ℕ). user.1 ≤ accepted) users → Enough space users accepted count taken → can_follow space users accepted count taken ≡ true
   follow_from noted enough =
@@ -193,13 +165,9 @@ module _ (space : List ℕ → ℕ) (users : List (List ℕ × ℕ)) (accepted c
         | false ↦ λ e.
             let some : count ≡ 0 → ⊥ = eqb-false count 0 e in
             let last = enough accepted (omega arith) (omega (arith, some)) in
-            both (nat_le (count + taken) (space_upto space users accepted)) (list_all (λ (user : List ℕ × ℕ). Holds user.1) users) (le-leb (count + taken) (space_upto space users accepted) (omega (arith, last))) (all-hold hold users noted)
+            and_from (nat_le (count + taken) (space_upto space users accepted)) (list_all (λ (user : List ℕ × ℕ). Holds user.1) users) (le-leb (count + taken) (space_upto space users accepted) (omega (arith, last))) (all-hold hold users noted)
       ] refl
     where
-      both : (a b : Bool) → a ≡ true → b ≡ true → (a && b) ≡ true
-      both true b f g = g
-      both false b f g = absurd (true≢false (sym f))
-
       hold : (number : ℕ) → number ≤ accepted → Holds number ≡ true
       hold number upto =
           elim (nat_le (number + count) accepted) as (λ b. nat_le (number + count) accepted ≡ b → (b || nat_le (number + count + taken) (accepted + space_upto space users number)) ≡ true) [

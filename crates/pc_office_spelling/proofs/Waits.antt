@@ -1,13 +1,14 @@
 -- How mails that wait take space.
-use Rattle.std.proofs.Common.{◌≡◌, ℕ, zero, suc, ◌+◌, ◌-◌, ◌*◌, ◌/◌, ◌<◌, ◌≤◌, min, Bool, true, false, cond, ◌&&◌, ◌||◌, nat_lt, nat_le, List, [], ◌∷◌, ◌++◌, length, Option, None, Some, MatchOption, option_map, refl, sym, ap, subst, ◌∙◌, arith, length-append, true≢false}
+use Rattle.std.proofs.Common.{◌≡◌, ℕ, suc, ◌+◌, ◌*◌, ◌<◌, ◌≤◌, Bool, true, false, cond, ◌||◌, nat_lt, nat_le, List, [], ◌∷◌, ◌++◌, length, Option, None, Some, MatchOption, option_map, refl, sym, ap, ◌∙◌, arith, length-append, true≢false}
 use Rattle.std.specs.List.{AllByRecursion as Every, cons_option}
 use Rattle.std.specs.Map.{lookup, keys_of}
 use Rattle.std.proofs.lemmas.Bool.{leb-true, leb-false}
 use Rattle.pc_message.specs.declared.lists.Mail.{Mail}
 use Rattle.pc_message.specs.Message.{size_of, weight_of}
-use Rattle.pc_history.specs.Table.{same, is_among, total}
+use Rattle.pc_history.specs.Table.{same, is_among}
 use Rattle.pc_history.specs.Legal.{Ordered, AreDistinct}
-use Rattle.pc_history.proofs.Tables.{same-true, same-refl, same-sym}
+use Rattle.pc_history.proofs.Tables.{same-refl}
+use Rattle.pc_history.proofs.Uids.{Every-from}
 use Rattle.pc_history.proofs.Numbers.{total-append}
 use Rattle.pc_office_history.specs.declared.limits.TheConstants.{MOST_WAITING, MOST_WAITING_WEIGHT}
 use Rattle.pc_office_history.specs.declared.kept.Target.{Target}
@@ -18,7 +19,7 @@ use Rattle.pc_office_history.specs.Step.{is_awaited}
 use Rattle.pc_office_history.specs.Legal.{HasOtherUser, IsUnpulled, IsKept}
 use Rattle.pc_office_history.proofs.Mails.{mails_for-append}
 use Rattle.pc_office_spelling.specs.Spaces.{space_beside, space_of, users_of, space_after, space_upto}
-use Rattle.pc_office_spelling.proofs.Spaces.{every, upto-le, upto-sum, upto-more, once-upto, Enough}
+use Rattle.pc_office_spelling.proofs.Spaces.{cond-none, cond-one, upto-le, upto-sum, upto-more, once-upto, Enough}
 
 -- the numbers of mails rise
 abbrev pub Rising : List KeptMail → Type 0
@@ -93,13 +94,8 @@ for-more : (target : Target) (targets : List Target) (name : List ℕ) → is_fo
 for-more target targets name = by-case (same name target.user) (is_among name (users_of targets))
   where
     by-case : (a b : Bool) → cond b 1 0 ≤ cond (a || b) 1 0
-    by-case true true = omega arith
-    by-case true false = omega arith
-    by-case false b = by-same b
-      where
-        by-same : (b : Bool) → cond b 1 0 ≤ cond b 1 0
-        by-same true = omega arith
-        by-same false = omega arith
+    by-case true b = cond-one b
+    by-case false b = omega arith
 
 module _ (users : List (List ℕ × ℕ)) (number : ℕ) where
   pub targets-least : (targets : List Target) → Ordered HasOtherUser targets → Every (λ (target : Target). IsBelow users number target.user) targets → length targets ≤ space_upto (is_for targets) users number
@@ -116,16 +112,12 @@ module _ (users : List (List ℕ × ℕ)) (number : ℕ) where
     where
       nothing : (some : List (List ℕ × ℕ)) → space_upto (λ user. 0) some number ≤ 0
       nothing [] = omega arith
-      nothing (user ∷ some) = let rest = nothing some in let here = zeros (nat_lt user.1 number) in omega (arith, rest, here)
-        where
-          zeros : (b : Bool) → cond b 0 0 ≤ 0
-          zeros true = omega arith
-          zeros false = omega arith
+      nothing (user ∷ some) = let rest = nothing some in let here = cond-none (nat_lt user.1 number) in omega (arith, rest, here)
   targets-most distinct (target ∷ targets) =
       let rest = targets-most distinct targets in
       let one = once-upto number target.user users distinct in
       let split = upto-sum number (λ user. cond (same user target.user) 1 0) (is_for targets) users in
-      let le = upto-le number (is_for (target ∷ targets)) (λ user. cond (same user target.user) 1 0 + is_for targets user) users (every (λ (user : List ℕ × ℕ). is_for (target ∷ targets) user.0 ≤ cond (same user.0 target.user) 1 0 + is_for targets user.0) (λ user. by-case (same user.0 target.user) (is_among user.0 (users_of targets))) users) in
+      let le = upto-le number (is_for (target ∷ targets)) (λ user. cond (same user target.user) 1 0 + is_for targets user) users (Every-from (λ (user : List ℕ × ℕ). is_for (target ∷ targets) user.0 ≤ cond (same user.0 target.user) 1 0 + is_for targets user.0) (λ user. by-case (same user.0 target.user) (is_among user.0 (users_of targets))) users) in
       omega (arith, rest, one, split, le)
     where
       by-case : (a b : Bool) → cond (a || b) 1 0 ≤ cond a 1 0 + cond b 1 0
@@ -227,7 +219,7 @@ module _ (users : List (List ℕ × ℕ)) (accepted : ℕ) where
       let most = targets-most users number distinct targets in
       let split = upto-sum number (space_after before targets 0) (is_for targets) users in
       let less = upto-le number (space_of before) (λ user. space_after before targets 0 user + is_for targets user) users
-          (every (λ (user : List ℕ × ℕ). space_of before user.0 ≤ space_after before targets 0 user.0 + is_for targets user.0) (λ user. by-case (length (mails_for user.0 before)) (mail_weight (mails_for user.0 before)) (is_among user.0 (users_of targets))) users)
+          (Every-from (λ (user : List ℕ × ℕ). space_of before user.0 ≤ space_after before targets 0 user.0 + is_for targets user.0) (λ user. by-case (length (mails_for user.0 before)) (mail_weight (mails_for user.0 before)) (is_among user.0 (users_of targets))) users)
       in
       omega (arith, all, most, split, less)
     where
@@ -240,7 +232,7 @@ module _ (users : List (List ℕ × ℕ)) (accepted : ℕ) where
   enough-smaller before targets count size smaller fewer enough number le past =
       let all = enough number le past in
       let more = upto-le number (space_after before targets size) (space_after before targets smaller) users
-          (every (λ (user : List ℕ × ℕ). space_after before targets size user.0 ≤ space_after before targets smaller user.0) (λ user. by-case (length (mails_for user.0 before)) (mail_weight (mails_for user.0 before)) (is_among user.0 (users_of targets))) users)
+          (Every-from (λ (user : List ℕ × ℕ). space_after before targets size user.0 ≤ space_after before targets smaller user.0) (λ user. by-case (length (mails_for user.0 before)) (mail_weight (mails_for user.0 before)) (is_among user.0 (users_of targets))) users)
       in
       omega (arith, all, more)
     where
@@ -253,7 +245,7 @@ module _ (users : List (List ℕ × ℕ)) (accepted : ℕ) where
   enough-behind before mail count enough number le past =
       let all = enough number le past in
       let same = upto-le number (space_after before mail.targets (size_of mail.message)) (space_of (before ++ mail ∷ [])) users
-          (every (λ (user : List ℕ × ℕ). space_after before mail.targets (size_of mail.message) user.0 ≤ space_of (before ++ mail ∷ []) user.0) (λ user. let is = behind-space mail user.0 before in omega (arith, is)) users)
+          (Every-from (λ (user : List ℕ × ℕ). space_after before mail.targets (size_of mail.message) user.0 ≤ space_of (before ++ mail ∷ []) user.0) (λ user. let is = behind-space mail user.0 before in omega (arith, is)) users)
       in
       omega (arith, all, same)
 
@@ -261,6 +253,6 @@ module _ (users : List (List ℕ × ℕ)) (accepted : ℕ) where
   enough-before before mail count enough number le past =
       let all = enough number le past in
       let same = upto-le number (space_of (before ++ mail ∷ [])) (space_after before mail.targets (size_of mail.message)) users
-          (every (λ (user : List ℕ × ℕ). space_of (before ++ mail ∷ []) user.0 ≤ space_after before mail.targets (size_of mail.message) user.0) (λ user. let is = behind-space mail user.0 before in omega (arith, is)) users)
+          (Every-from (λ (user : List ℕ × ℕ). space_of (before ++ mail ∷ []) user.0 ≤ space_after before mail.targets (size_of mail.message) user.0) (λ user. let is = behind-space mail user.0 before in omega (arith, is)) users)
       in
       omega (arith, all, same)
