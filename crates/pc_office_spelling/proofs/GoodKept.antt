@@ -145,7 +145,7 @@ module _ (users : List (List ℕ × ℕ)) (accepted : ℕ) (distinct : AreDistin
 
     -- what holds behind one mail more
     module _ (h : KeptBefore users accepted (suc count) before) (below : Every (λ (mail : KeptMail). mail.number < number) before) (upto : number + count ≤ accepted) (targets : List Target) (message : List (List ℕ)) (these : TargetsBefore open_now 0 targets) (some : 0 < length targets)
-      (is : is_message message ≡ true) (may : may_wait users accepted count before targets (size_of message) ≡ true) where
+        (is : is_message message ≡ true) (may : may_wait users accepted count before targets (size_of message) ≡ true) where
       abbrev mail : KeptMail
       mail = record { number = number; targets = targets; message = message }
 
@@ -170,7 +170,7 @@ module _ (users : List (List ℕ × ℕ)) (accepted : ℕ) (distinct : AreDistin
               let few-now = few.0.0 in
               let light-now = few.0.1 in
               elim (is_among user.0 (users_of targets)) as (λ b. is_among user.0 (users_of targets) ≡ b → length (mails_for user.0 (before ++ mail ∷ [])) ≡ length (mails_for user.0 before) + cond b 1 0 → mail_weight (mails_for user.0 (before ++ mail ∷ [])) ≡ mail_weight (mails_for user.0 before) + cond b (weight_of message) 0
-                  → (length (mails_for user.0 (before ++ mail ∷ [])) ≤ MOST_WAITING) × (mail_weight (mails_for user.0 (before ++ mail ∷ [])) ≤ MOST_WAITING_WEIGHT)) [
+              → (length (mails_for user.0 (before ++ mail ∷ [])) ≤ MOST_WAITING) × (mail_weight (mails_for user.0 (before ++ mail ∷ [])) ≤ MOST_WAITING_WEIGHT)) [
                 | true ↦ λ e l w.
                     let among = list_all-among (λ (name : List ℕ). is_among name open_now) user.0 (users_of targets) (all-names (λ (name : List ℕ). is_among name open_now) (users_of targets) (among-targets open_now targets these.among)) e in
                     let space = ltb-true 0 (space_of before user.0) (open-below (space_of before) number user.0 users distinct among).1 in
@@ -212,8 +212,8 @@ module _ (users : List (List ℕ × ℕ)) (accepted : ℕ) (distinct : AreDistin
           last,
           lt-ltb last 18446744073709551616 (omega (arith, small)),
           and_from (list_all (λ (mail : KeptMail). nat_lt mail.number last) before && nat_le (last + count) accepted) (nat_lt 0 (length (open_users (space_of before) users last)))
-          (and_from (list_all (λ (mail : KeptMail). nat_lt mail.number last) before) (nat_le (last + count) accepted) (below-all last before upto-last) (le-leb (last + count) accepted (omega (arith, reach))))
-          (lt-ltb 0 (length (open_users (space_of before) users last)) somebody),
+              (and_from (list_all (λ (mail : KeptMail). nat_lt mail.number last) before) (nat_le (last + count) accepted) (below-all last before upto-last) (le-leb (last + count) accepted (omega (arith, reach))))
+              (lt-ltb 0 (length (open_users (space_of before) users last)) somebody),
         ),
         λ number fit passed.
             let outer = and_parts (list_all (λ (mail : KeptMail). nat_lt mail.number number) before && nat_le (number + count) accepted) (nat_lt 0 (length (open_users (space_of before) users number))) passed in
@@ -226,8 +226,8 @@ module _ (users : List (List ℕ × ℕ)) (accepted : ℕ) (distinct : AreDistin
                 1,
                 refl,
                 and_from (nat_lt 0 1 && nat_le 1 (length opens)) (can_follow (space_of before) users accepted count 1)
-                (and_from (nat_lt 0 1) (nat_le 1 (length opens)) refl (le-leb 1 (length opens) (omega (arith, some-open))))
-                (follow_from (space_of before) users accepted count 1 noted (λ n le past. let all = enough n le (omega (arith, past)) in omega (arith, all))),
+                    (and_from (nat_lt 0 1) (nat_le 1 (length opens)) refl (le-leb 1 (length opens) (omega (arith, some-open))))
+                    (follow_from (space_of before) users accepted count 1 noted (λ n le past. let all = enough n le (omega (arith, past)) in omega (arith, all))),
               ),
               λ many fit-many passed-many.
                   let first = and_parts (nat_lt 0 many && nat_le many (length opens)) (can_follow (space_of before) users accepted count many) passed-many in
@@ -239,8 +239,8 @@ module _ (users : List (List ℕ × ℕ)) (accepted : ℕ) (distinct : AreDistin
       good-rest : (count : ℕ) (before : List KeptMail) (front : List (List ℕ)) → KeptBefore users accepted (suc count) before → (number : ℕ) → Every (λ (mail : KeptMail). mail.number < number) before → number + count ≤ accepted
           → (many : ℕ) → 0 < many → many ≤ length (open_users (space_of before) users number) → Enough (space_of before) users accepted count many
           → Good (Next (kept_format users accepted) kept_fields (KeptBefore users accepted) count before front)
-              (bind (items_from (target_format (open_users (space_of before) users number)) many []) (λ targets. bind (message_within (greatest (may_wait users accepted count before targets) 65536)) (λ message. ends (record { number = number; targets = targets; message = message }))))
-              ((front ++ u64_field number ∷ []) ++ u16_field many ∷ [])
+          (bind (items_from (target_format (open_users (space_of before) users number)) many []) (λ targets. bind (message_within (greatest (may_wait users accepted count before targets) 65536)) (λ message. ends (record { number = number; targets = targets; message = message }))))
+          ((front ++ u64_field number ∷ []) ++ u16_field many ∷ [])
       good-rest count before front h number below upto many some few enough =
           let opens = open_users (space_of before) users number in
           let behind = (front ++ u64_field number ∷ []) ++ u16_field many ∷ [] in
@@ -254,7 +254,7 @@ module _ (users : List (List ℕ × ℕ)) (accepted : ℕ) (distinct : AreDistin
           good_bind (IsReadMessage (greatest test 65536) fields) Q (message_within (greatest test 65536)) (λ message. ends (record { number = number; targets = targets; message = message })) fields (good_message (greatest test 65536) fields (greatest-most test 65536))
           (λ more message this. (
             this.spelled ∙ ap (λ (f : List (List ℕ)). f ++ message_fields message) these.spelled ∙ mail-spelled front (u64_field number) (u16_field many) (flat_map target_fields targets) (message_fields message)
-            ∙ ap (λ (n : ℕ). front ++ (u64_field number ∷ (u16_field n ∷ (flat_map target_fields targets ++ message_fields message)))) (sym counted),
+                ∙ ap (λ (n : ℕ). front ++ (u64_field number ∷ (u16_field n ∷ (flat_map target_fields targets ++ message_fields message)))) (sym counted),
             kept-behind count before number h below upto targets message these.holds (omega (arith, some, counted)) this.is (may-smaller count before targets (greatest test 65536) (size_of message) this.size (greatest-passes test 65536 least)),
           )))
 

@@ -55,7 +55,7 @@ pub record IsReadRecord (fields : List (List ℕ)) (r : OfficeRecord) : Type 0 w
   pub saved : CanBeSaved r
 
 module _ (users : List (List ℕ × ℕ)) (addresses : List (List ℕ × Target)) (boards : Boards) (accepted : ℕ) (kept : List KeptMail) (f1 f2 f3 f4 : List (List ℕ)) (u : AreReadUsers [] f1 users) (a : AreReadAddresses (keys_of users) f1 f2 addresses)
-  (b : AreReadBoards (keys_of users ++ keys_of addresses) f2 f3 boards) (noted : Every (λ (user : List ℕ × ℕ). user.1 ≤ accepted) users) (last : accepted ≤ 9223372036854775807) (k : AreReadKept users accepted (f3 ++ u64_field accepted ∷ []) f4 kept) where
+    (b : AreReadBoards (keys_of users ++ keys_of addresses) f2 f3 boards) (noted : Every (λ (user : List ℕ × ℕ). user.1 ≤ accepted) users) (last : accepted ≤ 9223372036854775807) (k : AreReadKept users accepted (f3 ++ u64_field accepted ∷ []) f4 kept) where
   abbrev r : OfficeRecord
   r = record { users = users; addresses = addresses; boards = boards; accepted = accepted; kept = kept }
 

@@ -219,7 +219,7 @@ module _ (users : List (List ℕ × ℕ)) (accepted : ℕ) where
       let most = targets-most users number distinct targets in
       let split = upto-sum number (space_after before targets 0) (is_for targets) users in
       let less = upto-le number (space_of before) (λ user. space_after before targets 0 user + is_for targets user) users
-          (Every-from (λ (user : List ℕ × ℕ). space_of before user.0 ≤ space_after before targets 0 user.0 + is_for targets user.0) (λ user. by-case (length (mails_for user.0 before)) (mail_weight (mails_for user.0 before)) (is_among user.0 (users_of targets))) users)
+      (Every-from (λ (user : List ℕ × ℕ). space_of before user.0 ≤ space_after before targets 0 user.0 + is_for targets user.0) (λ user. by-case (length (mails_for user.0 before)) (mail_weight (mails_for user.0 before)) (is_among user.0 (users_of targets))) users)
       in
       omega (arith, all, most, split, less)
     where
@@ -232,7 +232,7 @@ module _ (users : List (List ℕ × ℕ)) (accepted : ℕ) where
   enough-smaller before targets count size smaller fewer enough number le past =
       let all = enough number le past in
       let more = upto-le number (space_after before targets size) (space_after before targets smaller) users
-          (Every-from (λ (user : List ℕ × ℕ). space_after before targets size user.0 ≤ space_after before targets smaller user.0) (λ user. by-case (length (mails_for user.0 before)) (mail_weight (mails_for user.0 before)) (is_among user.0 (users_of targets))) users)
+      (Every-from (λ (user : List ℕ × ℕ). space_after before targets size user.0 ≤ space_after before targets smaller user.0) (λ user. by-case (length (mails_for user.0 before)) (mail_weight (mails_for user.0 before)) (is_among user.0 (users_of targets))) users)
       in
       omega (arith, all, more)
     where
@@ -245,7 +245,7 @@ module _ (users : List (List ℕ × ℕ)) (accepted : ℕ) where
   enough-behind before mail count enough number le past =
       let all = enough number le past in
       let same = upto-le number (space_after before mail.targets (size_of mail.message)) (space_of (before ++ mail ∷ [])) users
-          (Every-from (λ (user : List ℕ × ℕ). space_after before mail.targets (size_of mail.message) user.0 ≤ space_of (before ++ mail ∷ []) user.0) (λ user. let is = behind-space mail user.0 before in omega (arith, is)) users)
+      (Every-from (λ (user : List ℕ × ℕ). space_after before mail.targets (size_of mail.message) user.0 ≤ space_of (before ++ mail ∷ []) user.0) (λ user. let is = behind-space mail user.0 before in omega (arith, is)) users)
       in
       omega (arith, all, same)
 
@@ -253,6 +253,6 @@ module _ (users : List (List ℕ × ℕ)) (accepted : ℕ) where
   enough-before before mail count enough number le past =
       let all = enough number le past in
       let same = upto-le number (space_of (before ++ mail ∷ [])) (space_after before mail.targets (size_of mail.message)) users
-          (Every-from (λ (user : List ℕ × ℕ). space_of (before ++ mail ∷ []) user.0 ≤ space_after before mail.targets (size_of mail.message) user.0) (λ user. let is = behind-space mail user.0 before in omega (arith, is)) users)
+      (Every-from (λ (user : List ℕ × ℕ). space_of (before ++ mail ∷ []) user.0 ≤ space_after before mail.targets (size_of mail.message) user.0) (λ user. let is = behind-space mail user.0 before in omega (arith, is)) users)
       in
       omega (arith, all, same)

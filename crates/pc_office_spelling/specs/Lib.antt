@@ -7,3 +7,4 @@ pub mod RecordForm
 pub mod Spaces
 pub mod RecordFormat
 pub mod RecordLaws
+pub mod Samples

@@ -7,6 +7,7 @@ mod entry_writing;
 pub mod laws;
 mod message_reading;
 pub mod record_laws;
+pub mod samples;
 #[cfg(test)]
 mod tests;
 
