@@ -1,0 +1,10 @@
+pub mod Spelling
+pub mod EntryForm
+pub mod EntryFormat
+pub mod Laws
+pub mod RecordSpelling
+pub mod RecordForm
+pub mod Spaces
+pub mod RecordFormat
+pub mod RecordLaws
+pub mod Samples
