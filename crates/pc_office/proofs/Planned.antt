@@ -17,7 +17,11 @@ use Rattle.pc_office_history.specs.declared.kept.Target.{Target}
 use Rattle.pc_office_history.specs.declared.limits.TheConstants.{MOST_RECIPIENTS}
 use Rattle.pc_office_history.specs.declared.entry.OfficeEntry.{OfficeEntry}
 use Rattle.pc_office_history.specs.declared.entry.OfficeEntry.TheVariants as entry
-use Rattle.pc_office_history.specs.Known.{Known}
+use Rattle.pc_office_history.specs.Known.{Known, said_by}
+use Rattle.pc_office_history.specs.Record.{OfficeRecord}
+use Rattle.pc_office_spelling.specs.EntryForm.{entry_fits}
+use Rattle.pc_office_holdings.proofs.Entered.{may-parts}
+use Rattle.pc_office.specs.Machine.{accepts}
 use Rattle.pc_office_history.specs.Allowed.{is_allowed, is_user, is_free, is_recipient, are_apart}
 use Rattle.pc_office_history.specs.Limits.{limit_passed, would_pass}
 use Rattle.pc_office.specs.declared.wish.OfficeWish.{OfficeWish}
@@ -123,3 +127,14 @@ planned-follows k (wish.Accept message) told h = sent-follows k message told h
 pub told-follows : (k : Known) (w : OfficeWish) (told : Result OfficeEntry AskFault) → Tells (planned k w) told → IfOk told (λ e. IsTrue (may_follow k e))
 told-follows k w (Ok e) h = planned-follows k w e h
 told-follows k w (Err fault) h = tt
+
+-- the entry of a plan fits its fields where it passes no limit
+abbrev pub PlanFits : Result OfficeEntry AskFault → Type 0
+PlanFits told = IfOk told (λ e. (k : Known) → limit_passed k e ≡ None → IsTrue (entry_fits e))
+
+-- a store may commit what is told
+pub told-accepted : (r : OfficeRecord) (w : OfficeWish) (told : Result OfficeEntry AskFault) → Tells (planned (said_by r) w) told → PlanFits told → IfOk told (λ e. IsTrue (accepts r e))
+told-accepted r w (Ok e) h fits =
+    let may = planned-follows (said_by r) w e h in
+    and_from (may_follow (said_by r) e) (entry_fits e) may (fits (said_by r) (may-parts (said_by r) e may).1)
+told-accepted r w (Err fault) h fits = tt

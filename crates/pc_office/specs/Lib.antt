@@ -1,2 +1,5 @@
 pub mod Limits
 pub mod Plan
+pub mod Machine
+pub mod FitsAfter
+pub mod Following

@@ -1,13 +1,16 @@
 //! What the office allows, and what wishes come to.
 
-ghost use Rattle.std.specs.Prelude.{◌≡◌, ◌<◌, ◌≤◌, length, true, Ok, Err, IsTrue, IfOk, option_copied};
+ghost use Rattle.std.specs.Prelude.{◌≡◌, ◌<◌, ◌≤◌, length, true, None, Ok, Err, IsTrue, IfOk, option_copied};
 ghost use Rattle.std.specs.Option.{option_map_or};
 ghost use Rattle.pc_base.specs.declared.refusal.Refusal.TheVariants.{UnknownRecipient, LimitReached};
 ghost use Rattle.pc_account.specs.declared.wish.AskFault.TheVariants.{Refused};
 ghost use Rattle.pc_account.specs.Answers.{Tells, IsNoMemory};
 ghost use Rattle.pc_office_history.specs.declared.limits.TheConstants.{MOST_RECIPIENTS};
 ghost use Rattle.pc_office_history.specs.Allowed.{are_apart};
-ghost use Rattle.pc_office_history.specs.Known.{said_by};
+ghost use Rattle.pc_office_history.specs.Known.{Known, said_by};
+ghost use Rattle.pc_office_history.specs.Limits.{limit_passed};
+ghost use Rattle.pc_office_spelling.specs.EntryForm.{entry_fits};
+ghost use Rattle.pc_office.specs.Machine.{accepts};
 ghost use Rattle.pc_office_history.specs.History.{History, known};
 ghost use Rattle.pc_office.specs.declared.wish.OfficeWish.TheVariants as wish;
 ghost use Rattle.pc_office_holdings.specs.Held.{record_in};
@@ -16,6 +19,7 @@ ghost use Rattle.pc_office.specs.Plan.{fault_of, first_stranger, sent_to_names, 
 
 use crate::allowing::{is_allowed, is_free, is_recipient, is_user};
 use pc_office_holdings::Holdings;
+use pc_office_spelling::fits;
 use crate::limits::{
     limit_of_address, limit_of_mail, limit_of_new_board, limit_of_user, limit_passed,
 };
@@ -36,16 +40,29 @@ impl Office {
         may_follow(&self.holdings, entry)
     }
 
-    /// The entry that a wish comes to, which may come next, or the first refusal. Memory is wanted
-    /// only to send.
+    /// The entry that a wish comes to, which may come next and which a store may commit, or the
+    /// first refusal. Memory is wanted only to send.
     pub fn plan(&self, alloc: Global, wish: &OfficeWish) -> Result<OfficeEntry, AskFault>
         ensures held { Tells (planned (said_by self.now) wish.now) result }
         ensures history { (h : History) → StandsFor self.now h → Tells (planned (known h) wish.now) result }
         ensures follows { IfOk result (λ entry. IsTrue (may_follow (said_by self.now) entry)) }
+        ensures accepted { IfOk result (λ entry. IsTrue (accepts self.now entry)) }
         ensures memory { IsAtOnce wish.now → IsNoMemory result }
     {
-        plan(alloc, &self.holdings, wish)
+        let planned = plan(alloc, &self.holdings, wish);
+        see_that_it_fits(&planned);
+        planned
     }
+}
+
+/// An entry that passes no limit fits its fields.
+fn see_that_it_fits(plan: &Result<OfficeEntry, AskFault>)
+    ensures { IfOk plan.now (λ entry. (k : Known) → limit_passed k entry ≡ None → IsTrue (entry_fits entry)) }
+{
+    let Ok(entry) = plan else {
+        return;
+    };
+    let _ = fits(entry);
 }
 
 /// What a wish comes to.
