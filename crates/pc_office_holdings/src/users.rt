@@ -98,12 +98,21 @@ impl Users {
         self.table.get(user).copied()
     }
 
-    /// Puts a user that isn't there behind the others. After `Err` they aren't used again.
+    /// Puts a new user that isn't there behind the others. After `Err` they aren't used again.
     pub fn add(&mut self, alloc: Global, user: Name) -> Result<(), Memory>
         requires { lookup (same user) self.old ≡ None }
         ensures { OnOk result (self.new ≡ self.old ++ (user, new_standing) ∷ []) }
     {
-        let Ok(()) = tables::put(&mut self.table, user, Standing::new()) else {
+        self.put(alloc, user, Standing::new())
+    }
+
+    /// Puts a user that isn't there behind the others, with this standing. After `Err` they aren't
+    /// used again.
+    pub fn put(&mut self, alloc: Global, user: Name, standing: Standing) -> Result<(), Memory>
+        requires { lookup (same user) self.old ≡ None }
+        ensures { OnOk result (self.new ≡ self.old ++ (user, standing) ∷ []) }
+    {
+        let Ok(()) = tables::put(&mut self.table, user, standing) else {
             return Err(Memory);
         };
         let Ok(()) = self.names.push(user) else {
