@@ -16,3 +16,4 @@ pub mod ReadsRecord
 pub mod GoodRecord
 pub mod RecordSize
 pub mod RecordLaws
+pub mod Written
