@@ -1,0 +1,57 @@
+-- Which entries are allowed, and how much a cache may have.
+use Rattle.std.specs.Prelude.{ℕ, ◌==◌, ◌≤◌, Bool, true, not, ◌&&◌, nat_lt, nat_le, List, [], ◌∷◌, map, length, is_some}
+use Rattle.std.specs.List.{list_any, list_all}
+use Rattle.pc_message.specs.declared.descriptor.Change.{Change}
+use Rattle.pc_message.specs.declared.descriptor.Change.TheVariants.{Present, Expunged}
+use Rattle.pc_history.specs.Table.{same, total}
+use Rattle.pc_cache_history.specs.declared.limits.TheConstants.{MOST_CACHED, MOST_DESCRIPTORS, MOST_TAKEN, MOST_NAMES, MOST_QUEUED, LAST_QUEUED}
+use Rattle.pc_cache_history.specs.declared.entry.CacheEntry.{CacheEntry}
+use Rattle.pc_cache_history.specs.declared.entry.CacheEntry.TheVariants.{Begin, Synced, Took, Kept, Queue, Answered}
+use Rattle.pc_cache_history.specs.Entry.{uid_of}
+use Rattle.pc_cache_history.specs.Known.{Known, after_entry}
+
+-- how many descriptors there are in the whole base
+abbrev pub descriptor_count : Known → ℕ
+descriptor_count k = total (λ mailbox. length (k.descriptors mailbox)) k.mailboxes
+
+-- the mailboxes and their descriptors are not too many
+abbrev pub has_room : Known → Bool
+has_room k = nat_le (length k.mailboxes) MOST_CACHED && nat_le (descriptor_count k) MOST_DESCRIPTORS
+
+-- nothing comes twice
+abbrev pub are_different : {X : Type 0} → (X → X → Bool) → List X → Bool
+are_different equal [] = true
+are_different equal (x ∷ xs) = not (list_any (equal x) xs) && are_different equal xs
+
+-- the flags of a change are sixteen, as those of each change that can be spelled
+abbrev pub has_flags : Change → Bool
+has_flags (Present descriptor) = nat_lt descriptor.flags 65536
+has_flags (Expunged _) = true
+
+-- these changes may be taken at once
+abbrev pub are_changes : List Change → Bool
+are_changes changes = nat_le (length changes) MOST_TAKEN && are_different ◌==◌ (map uid_of changes) && list_all has_flags changes
+
+-- a change with this number is in the queue
+abbrev pub is_queued : Known → ℕ → Bool
+is_queued k number = list_any (λ item. item.number == number) k.queue
+
+-- one more change can be queued
+abbrev pub can_queue : Known → Bool
+can_queue k = nat_lt (length k.queue) MOST_QUEUED && nat_lt k.last LAST_QUEUED
+
+-- what an entry needs
+abbrev pub is_allowed : Known → CacheEntry → Bool
+is_allowed k (Begin birth) = true
+is_allowed k Synced = k.resetting
+is_allowed k (Took mailbox changes) = not k.resetting && are_changes changes && has_room (after_entry k (Took mailbox changes))
+is_allowed k (Kept names) = not k.resetting && nat_le (length names) MOST_NAMES && are_different same names
+is_allowed k (Queue mailbox uid flag on) = is_some (k.base mailbox uid) && nat_le flag 15 && can_queue k
+is_allowed k (Answered number) = is_queued k number
+
+-- what holds at every place of a legal history, in its base too
+pub record IsWithin (k : Known) : Type 0 where
+  pub mailboxes : length k.mailboxes ≤ MOST_CACHED
+  pub descriptors : descriptor_count k ≤ MOST_DESCRIPTORS
+  pub queue : length k.queue ≤ MOST_QUEUED
+  pub last : k.last ≤ LAST_QUEUED

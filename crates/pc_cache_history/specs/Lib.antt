@@ -1,0 +1,9 @@
+pub mod Entry
+pub mod Record
+pub mod Effect
+pub mod Known
+pub mod View
+pub mod History
+pub mod Allowed
+pub mod Step
+pub mod Legal

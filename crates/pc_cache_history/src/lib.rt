@@ -1,0 +1,16 @@
+//! The history of a client's cache: its entries, what they mean, and the record that stands for them.
+#![tactic(auto)]
+
+mod entry;
+pub mod laws;
+mod limits;
+mod queued;
+pub mod samples;
+#[cfg(test)]
+mod tests;
+
+pub use entry::CacheEntry;
+pub use limits::{
+    LAST_QUEUED, MOST_CACHED, MOST_DESCRIPTORS, MOST_NAMES, MOST_QUEUED, MOST_TAKEN,
+};
+pub use queued::Queued;
