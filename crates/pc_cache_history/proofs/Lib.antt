@@ -1,1 +1,4 @@
 pub mod Descriptors
+pub mod Agreement
+pub mod FormedAfter
+pub mod Histories

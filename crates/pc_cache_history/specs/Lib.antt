@@ -7,3 +7,4 @@ pub mod History
 pub mod Allowed
 pub mod Step
 pub mod Legal
+pub mod Laws

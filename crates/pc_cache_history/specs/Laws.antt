@@ -1,0 +1,204 @@
+-- What holds of every legal history.
+use Rattle.std.specs.Prelude.{◌≡◌, ℕ, ◌+◌, ◌<◌, ◌==◌, ◌↔◌, Bool, true, false, not, ◌&&◌, ◌||◌, List, [], ◌∷◌, ◌++◌, map, length, None}
+use Rattle.std.specs.List.{AllByRecursion, filter, list_any}
+use Rattle.std.specs.Map.{keys_of}
+use Rattle.pc_message.specs.declared.descriptor.Descriptor.{Descriptor}
+use Rattle.pc_message.specs.declared.descriptor.Change.{Change}
+use Rattle.pc_history.specs.Table.{same, is_among, numbers, total}
+use Rattle.pc_history.specs.Legal.{AreDistinct}
+use Rattle.pc_cache_history.specs.declared.queued.Queued.{Queued}
+use Rattle.pc_cache_history.specs.declared.entry.CacheEntry.{CacheEntry}
+use Rattle.pc_cache_history.specs.declared.entry.CacheEntry.TheVariants.{Begin, Took, Kept, Answered}
+use Rattle.pc_cache_history.specs.Entry.{uid_of, shown_by}
+use Rattle.pc_cache_history.specs.Record.{CacheRecord, descriptor_at}
+use Rattle.pc_cache_history.specs.Effect.{last_after, new_items}
+use Rattle.pc_cache_history.specs.Known.{Known, said_by, after_entry}
+use Rattle.pc_cache_history.specs.View.{view, view_at}
+use Rattle.pc_cache_history.specs.History.{History, start, ◌▻◌, ◌▻▻◌, new_cache, known, next}
+use Rattle.pc_cache_history.specs.Allowed.{descriptor_count, is_allowed, IsWithin}
+use Rattle.pc_cache_history.specs.Step.{after, record_of}
+use Rattle.pc_cache_history.specs.Legal.{AreRising, AreInOrder, IsItem, IsCanonical, IsLegal}
+
+-- ---- the record
+
+-- two histories answer every question alike
+pub record AnswerAlike (g h : History) : Type 0 where
+  pub number : next g ≡ next h
+  pub birth : (known g).birth ≡ (known h).birth
+  pub resetting : (known g).resetting ≡ (known h).resetting
+  pub mailboxes : (known g).mailboxes ≡ (known h).mailboxes
+  pub base : (mailbox : List ℕ) (uid : ℕ) → (known g).base mailbox uid ≡ (known h).base mailbox uid
+  pub descriptors : (mailbox : List ℕ) → (known g).descriptors mailbox ≡ (known h).descriptors mailbox
+  pub count : descriptor_count (known g) ≡ descriptor_count (known h)
+  pub last : (known g).last ≡ (known h).last
+  pub queue : (known g).queue ≡ (known h).queue
+  pub view : (mailbox : List ℕ) → view (known g) mailbox ≡ view (known h) mailbox
+  pub view_at : (mailbox : List ℕ) (uid : ℕ) → view_at (known g) mailbox uid ≡ view_at (known h) mailbox uid
+  pub allowed : (e : CacheEntry) → is_allowed (known g) e ≡ is_allowed (known h) e
+
+-- the history with no entry whose base is the record of this one
+abbrev pub folded : History → History
+folded h = start (record_of h) (next h)
+
+abbrev pub RecordAnswersAsHistory : Type 0
+RecordAnswersAsHistory = (h : History) → IsLegal h → AnswerAlike h (folded h)
+
+-- whatever entries come behind, the record serves as well as the history whose record it is
+abbrev pub RecordInPlaceOfHistory : Type 0
+RecordInPlaceOfHistory = (h : History) → IsLegal h → (entries : List CacheEntry) → AnswerAlike (h ▻▻ entries) (folded h ▻▻ entries) × (IsLegal (h ▻▻ entries) ↔ IsLegal (folded h ▻▻ entries)) × (record_of (h ▻▻ entries) ≡ record_of (folded h ▻▻ entries))
+
+abbrev pub RecordIsCanonical : Type 0
+RecordIsCanonical = (h : History) → IsLegal h → IsCanonical (record_of h)
+
+-- an allowed entry makes of a canonical record one that says what is known after the entry
+abbrev pub StepIsOneEntryMore : Type 0
+StepIsOneEntryMore = (r : CacheRecord) (e : CacheEntry) → IsCanonical r → is_allowed (said_by r) e ≡ true → IsCanonical (after r e) × (said_by (after r e) ≡ after_entry (said_by r) e)
+
+-- what is said of each mailbox is what stands in its table, and the descriptors are as many as stand there
+pub record IsReadOff (r : CacheRecord) : Type 0 where
+  pub mailboxes : AllByRecursion (λ (mailbox : List ℕ × List Descriptor). (said_by r).descriptors mailbox.0 ≡ mailbox.1) r.mailboxes
+  pub count : descriptor_count (said_by r) ≡ total (λ mailbox. length mailbox.1) r.mailboxes
+
+abbrev pub RecordIsReadOff : Type 0
+RecordIsReadOff = (r : CacheRecord) → IsCanonical r → IsReadOff r
+
+-- the record of a new cache is canonical, and so each history that goes on from it by allowed entries is legal
+abbrev pub NewCacheIsLegal : Type 0
+NewCacheIsLegal = IsLegal new_cache
+
+-- every limit holds at each place
+abbrev pub LimitsHold : Type 0
+LimitsHold = (h : History) → IsLegal h → IsWithin (known h)
+
+-- ---- mailboxes
+
+-- the mailbox was taken since the last Begin, and no Kept left it out since
+abbrev pub is_cached : History → List ℕ → Bool
+is_cached (start r number) mailbox = is_among mailbox (keys_of r.mailboxes)
+is_cached (h ▻ Begin _) mailbox = false
+is_cached (h ▻ Took taken _) mailbox = is_cached h mailbox || same mailbox taken
+is_cached (h ▻ Kept names) mailbox = is_cached h mailbox && is_among mailbox names
+is_cached (h ▻ _) mailbox = is_cached h mailbox
+
+-- the mailboxes are those that were taken and not left out, each once; and none else has descriptors
+pub record AreCached (h : History) : Type 0 where
+  pub members : (mailbox : List ℕ) → is_among mailbox (known h).mailboxes ≡ is_cached h mailbox
+  pub distinct : AreDistinct (known h).mailboxes
+  pub nothing : (mailbox : List ℕ) → is_cached h mailbox ≡ false → (known h).descriptors mailbox ≡ []
+
+abbrev pub MailboxesAreCached : Type 0
+MailboxesAreCached = (h : History) → IsLegal h → AreCached h
+
+-- ---- the base
+
+-- descriptors by rising uid, which have at each uid what is known of it
+pub record IsListed (k : Known) (mailbox : List ℕ) : Type 0 where
+  pub rising : AreRising (k.descriptors mailbox)
+  pub shown : (uid : ℕ) → descriptor_at uid (k.descriptors mailbox) ≡ k.base mailbox uid
+
+abbrev pub BaseIsListed : Type 0
+BaseIsListed = (h : History) → IsLegal h → (mailbox : List ℕ) → IsListed (known h) mailbox
+
+-- these changes name the uid
+abbrev pub is_named : ℕ → List Change → Bool
+is_named uid changes = list_any (λ change. uid_of change == uid) changes
+
+-- the base of a mailbox after changes: what each says of its uid; of other uids, and in other mailboxes, what it was
+pub record IsReplaced (before behind : Known) (mailbox : List ℕ) (changes : List Change) : Type 0 where
+  pub named : AllByRecursion (λ (change : Change). behind.base mailbox (uid_of change) ≡ shown_by change) changes
+  pub unnamed : (uid : ℕ) → is_named uid changes ≡ false → behind.base mailbox uid ≡ before.base mailbox uid
+  pub others : (other : List ℕ) (uid : ℕ) → same mailbox other ≡ false → behind.base other uid ≡ before.base other uid
+  pub other_lists : (other : List ℕ) → same mailbox other ≡ false → behind.descriptors other ≡ before.descriptors other
+
+abbrev pub TookReplacesTheNamed : Type 0
+TookReplacesTheNamed = (h : History) (mailbox : List ℕ) (changes : List Change) → is_allowed (known h) (Took mailbox changes) ≡ true → IsReplaced (known h) (known (h ▻ Took mailbox changes)) mailbox changes
+
+-- the base after Kept: of the mailboxes that are named what it was, of others nothing
+pub record IsCutTo (before behind : Known) (names : List (List ℕ)) : Type 0 where
+  pub named : (mailbox : List ℕ) (uid : ℕ) → is_among mailbox names ≡ true → behind.base mailbox uid ≡ before.base mailbox uid
+  pub unnamed : (mailbox : List ℕ) (uid : ℕ) → is_among mailbox names ≡ false → behind.base mailbox uid ≡ None
+  pub queue : behind.queue ≡ before.queue
+
+abbrev pub KeptLeavesTheOthersOut : Type 0
+KeptLeavesTheOthersOut = (h : History) (names : List (List ℕ)) → IsCutTo (known h) (known (h ▻ Kept names)) names
+
+-- after Begin the copies are begun anew, and the queue is what it was
+pub record IsBegun (before behind : Known) (birth : ℕ) : Type 0 where
+  pub birth_is : behind.birth ≡ birth
+  pub resetting : behind.resetting ≡ true
+  pub mailboxes : behind.mailboxes ≡ []
+  pub base : (mailbox : List ℕ) (uid : ℕ) → behind.base mailbox uid ≡ None
+  pub descriptors : (mailbox : List ℕ) → behind.descriptors mailbox ≡ []
+  pub last : behind.last ≡ before.last
+  pub queue : behind.queue ≡ before.queue
+
+abbrev pub BeginEmptiesTheBase : Type 0
+BeginEmptiesTheBase = (h : History) (birth : ℕ) → IsBegun (known h) (known (h ▻ Begin birth)) birth
+
+-- a cache whose copies aren't all taken has none
+abbrev pub IsEmptyWhereResetting : Known → Type 0
+IsEmptyWhereResetting k = k.resetting ≡ true → k.mailboxes ≡ []
+
+-- so it is in a new cache, and no entry changes it
+abbrev pub ResettingIsEmpty : Type 0
+ResettingIsEmpty = IsEmptyWhereResetting (known new_cache) × ((h : History) (entries : List CacheEntry) → IsLegal (h ▻▻ entries) → IsEmptyWhereResetting (known h) → IsEmptyWhereResetting (known (h ▻▻ entries)))
+
+-- ---- the queue
+
+-- the changes that entries queue, behind the last one
+abbrev pub items_of : ℕ → List CacheEntry → List Queued
+items_of last [] = []
+items_of last (e ∷ entries) = new_items e last ++ items_of (last_after e last) entries
+
+-- an entry answers the change of this number
+abbrev pub answers : ℕ → CacheEntry → Bool
+answers number (Answered answered) = answered == number
+answers number _ = false
+
+-- those of the changes that none of these entries answers
+abbrev pub unanswered : List CacheEntry → List Queued → List Queued
+unanswered entries items = filter (λ item. not (list_any (answers item.number) entries)) items
+
+-- the queue is what it was and isn't answered since, and behind it what was queued since and isn't answered
+abbrev pub QueueIsUnanswered : Type 0
+QueueIsUnanswered = (h : History) (entries : List CacheEntry) → IsLegal (h ▻▻ entries) → (known (h ▻▻ entries)).queue ≡ unanswered entries (known h).queue ++ unanswered entries (items_of (known h).last entries)
+
+-- changes in order of their numbers, each a number that was given
+pub record AreNumbered (k : Known) : Type 0 where
+  pub rising : AreInOrder k.queue
+  pub items : AllByRecursion (IsItem k.last) k.queue
+
+abbrev pub NumbersRise : Type 0
+NumbersRise = (h : History) → IsLegal h → AreNumbered (known h)
+
+-- how many of the entries queue a change
+abbrev pub queue_count : List CacheEntry → ℕ
+queue_count [] = 0
+queue_count (e ∷ entries) = last_after e 0 + queue_count entries
+
+-- changes get the numbers behind the last one, one after the other, whatever else comes between: none comes again
+pub record AreNumberedOn (h : History) (entries : List CacheEntry) : Type 0 where
+  pub last : (known (h ▻▻ entries)).last ≡ (known h).last + queue_count entries
+  pub given : map (λ (item : Queued). item.number) (items_of (known h).last entries) ≡ numbers (known h).last (queue_count entries)
+  pub later : AllByRecursion (λ (item : Queued). (known h).last < item.number) (items_of (known h).last entries)
+
+abbrev pub NumbersComeOnce : Type 0
+NumbersComeOnce = (h : History) (entries : List CacheEntry) → AreNumberedOn h entries
+
+-- ---- the view
+
+-- the view has the uids of the base, in order, and at each uid its descriptor with the queue laid over it
+pub record IsViewed (k : Known) (mailbox : List ℕ) : Type 0 where
+  pub uids : map (λ (descriptor : Descriptor). descriptor.uid) (view k mailbox) ≡ map (λ (descriptor : Descriptor). descriptor.uid) (k.descriptors mailbox)
+  pub shown : (uid : ℕ) → descriptor_at uid (view k mailbox) ≡ view_at k mailbox uid
+
+abbrev pub ViewIsOfBase : Type 0
+ViewIsOfBase = (h : History) → IsLegal h → (mailbox : List ℕ) → IsViewed (known h) mailbox
+
+-- no queued change is of the mailbox
+abbrev pub NoneIsOf : List ℕ → List Queued → Type 0
+NoneIsOf mailbox items = AllByRecursion (λ (item : Queued). same item.mailbox mailbox ≡ false) items
+
+-- then the view is the base
+abbrev pub ViewWithoutItems : Type 0
+ViewWithoutItems = (h : History) (mailbox : List ℕ) → NoneIsOf mailbox (known h).queue → (view (known h) mailbox ≡ (known h).descriptors mailbox) × ((uid : ℕ) → view_at (known h) mailbox uid ≡ (known h).base mailbox uid)
