@@ -34,7 +34,7 @@ module _ {X : Type 0} where
   found-anew value None h = absurd (true≢false (sym h))
   found-anew value (Some x) h = refl
 
-  absent : (found : Option X) → is_some found ≡ false → found ≡ None
+  pub absent : (found : Option X) → is_some found ≡ false → found ≡ None
   absent None h = refl
   absent (Some x) h = absurd (true≢false h)
 

@@ -8,9 +8,11 @@ use Rattle.pc_history.specs.Table.{same, is_among, numbers, total}
 use Rattle.pc_history.specs.Legal.{AreDistinct}
 use Rattle.pc_cache_history.specs.declared.queued.Queued.{Queued}
 use Rattle.pc_cache_history.specs.declared.entry.CacheEntry.{CacheEntry}
-use Rattle.pc_cache_history.specs.declared.entry.CacheEntry.TheVariants.{Begin, Took, Kept, Answered}
+use Rattle.pc_cache_history.specs.declared.entry.CacheEntry.TheVariants.{Begin, Took, Kept, Queue, Answered}
 use Rattle.pc_cache_history.specs.Entry.{uid_of, shown_by}
-use Rattle.pc_cache_history.specs.Record.{CacheRecord, descriptor_at}
+use Rattle.pc_history.specs.Flags.{flags_with}
+use Rattle.std.specs.Option.{option_map}
+use Rattle.pc_cache_history.specs.Record.{CacheRecord, descriptor_at, is_for}
 use Rattle.pc_cache_history.specs.Effect.{last_after, new_items}
 use Rattle.pc_cache_history.specs.Known.{Known, said_by, after_entry}
 use Rattle.pc_cache_history.specs.View.{view, view_at}
@@ -202,3 +204,15 @@ NoneIsOf mailbox items = AllByRecursion (λ (item : Queued). same item.mailbox m
 -- then the view is the base
 abbrev pub ViewWithoutItems : Type 0
 ViewWithoutItems = (h : History) (mailbox : List ℕ) → NoneIsOf mailbox (known h).queue → (view (known h) mailbox ≡ (known h).descriptors mailbox) × ((uid : ℕ) → view_at (known h) mailbox uid ≡ (known h).base mailbox uid)
+
+-- a flag that is set on a message of the view
+abbrev pub set_flag : ℕ → Bool → Descriptor → Descriptor
+set_flag flag on descriptor = record descriptor { flags = flags_with descriptor.flags flag on }
+
+-- the view once a change is queued: its message has the flag so, and every other is shown as it was
+pub record IsSetIn (before behind : Known) (item : Queued) : Type 0 where
+  pub here : view_at behind item.mailbox item.uid ≡ option_map (set_flag item.flag item.on) (view_at before item.mailbox item.uid)
+  pub others : (mailbox : List ℕ) (uid : ℕ) → is_for mailbox uid item ≡ false → view_at behind mailbox uid ≡ view_at before mailbox uid
+
+abbrev pub QueuedIsShown : Type 0
+QueuedIsShown = (h : History) (item : Queued) → IsLegal h → IsSetIn (known h) (known (h ▻ Queue item.mailbox item.uid item.flag item.on)) item
