@@ -32,9 +32,9 @@ module _ {X : Type 0} where
   lookup-own : (table : List (List ℕ × X)) → AreDistinct (keys_of table) → Every (λ (entry : List ℕ × X). lookup (same entry.0) table ≡ Some entry.1) table
   lookup-own [] h = tt
   lookup-own (first ∷ table) h = (
-      ap (λ b. cond b (Some first.1) (lookup (same first.0) table)) (same-refl first.0),
-      Every-zip (λ (entry : List ℕ × X). same first.0 entry.0 ≡ false) (λ (entry : List ℕ × X). lookup (same entry.0) table ≡ Some entry.1) (λ (entry : List ℕ × X). lookup (same entry.0) (first ∷ table) ≡ Some entry.1) (λ entry e found. ap (λ b. cond b (Some first.1) (lookup (same entry.0) table)) (same-sym entry.0 first.0 ∙ e) ∙ found) table (Every-keys first.0 table h.0) (lookup-own table h.1),
-      )
+    ap (λ b. cond b (Some first.1) (lookup (same first.0) table)) (same-refl first.0),
+    Every-zip (λ (entry : List ℕ × X). same first.0 entry.0 ≡ false) (λ (entry : List ℕ × X). lookup (same entry.0) table ≡ Some entry.1) (λ (entry : List ℕ × X). lookup (same entry.0) (first ∷ table) ≡ Some entry.1) (λ entry e found. ap (λ b. cond b (Some first.1) (lookup (same entry.0) table)) (same-sym entry.0 first.0 ∙ e) ∙ found) table (Every-keys first.0 table h.0) (lookup-own table h.1),
+  )
     where
       Every-keys : (name : List ℕ) (rest : List (List ℕ × X)) → Every (λ other. same name other ≡ false) (keys_of rest) → Every (λ (entry : List ℕ × X). same name entry.0 ≡ false) rest
       Every-keys name [] g = g

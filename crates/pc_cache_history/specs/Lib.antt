@@ -8,3 +8,4 @@ pub mod Allowed
 pub mod Step
 pub mod Legal
 pub mod Laws
+pub mod Samples
