@@ -5,3 +5,4 @@ pub mod Histories
 pub mod Mailboxes
 pub mod Queue
 pub mod Views
+pub mod Order

@@ -79,7 +79,7 @@ among-kept asked kept (name ∷ names) = step (is_among name kept) (same asked n
     step false true false h g ih = ih ∙ elim (is_among asked names) as (λ b. (b && false) ≡ false) [ true ↦ refl | false ↦ refl ]
     step false false c h g ih = ih
 
-members : (h : History) (mailbox : List ℕ) → is_among mailbox (known h).mailboxes ≡ is_cached h mailbox
+pub members : (h : History) (mailbox : List ℕ) → is_among mailbox (known h).mailboxes ≡ is_cached h mailbox
 members (start r number) mailbox = refl
 members (h ▻ Begin birth) mailbox = refl
 members (h ▻ Took taken changes) mailbox = among-taken mailbox taken (known h).mailboxes ∙ ap (λ b. b || same mailbox taken) (members h mailbox)

@@ -1,5 +1,5 @@
 -- The view is the base with the queue laid over it.
-use Rattle.std.proofs.Common.{◌≡◌, ℕ, suc, ◌==◌, true, false, cond, ◌&&◌, List, [], ◌∷◌, ◌++◌, map, Option, None, Some, option_map, refl, sym, ◌∙◌, ap, subst, eq-eqb}
+use Rattle.std.proofs.Common.{◌≡◌, ℕ, suc, ◌==◌, true, false, cond, ◌&&◌, List, [], ◌∷◌, ◌++◌, map, Option, None, Some, is_some, option_map, refl, sym, ◌∙◌, ap, subst, eq-eqb}
 use Rattle.std.proofs.lemmas.Bool.{eqb-true}
 use Rattle.pc_message.specs.declared.descriptor.Descriptor.{Descriptor}
 use Rattle.pc_history.specs.Flags.{flags_with}
@@ -24,12 +24,17 @@ descriptor_at-laid : (mailbox : List ℕ) (items : List Queued) (uid : ℕ) (des
 descriptor_at-laid mailbox items uid [] = refl
 descriptor_at-laid mailbox items uid (descriptor ∷ descriptors) = elim (descriptor.uid == uid) as (λ b. cond b (Some (laid_over mailbox items descriptor)) (descriptor_at uid (map (laid_over mailbox items) descriptors)) ≡ option_map (laid_over mailbox items) (cond b (Some descriptor) (descriptor_at uid descriptors))) [ true ↦ refl | false ↦ descriptor_at-laid mailbox items uid descriptors ]
 
+some-laid : (f : Descriptor → Descriptor) (found : Option Descriptor) → is_some (option_map f found) ≡ is_some found
+some-laid f None = refl
+some-laid f (Some descriptor) = refl
+
 pub viewed : (h : History) → IsLegal h → (mailbox : List ℕ) → IsViewed (known h) mailbox
 viewed h legal mailbox =
     let k = known h in
     record {
       uids = uids-laid mailbox k.queue (k.descriptors mailbox);
       shown = λ uid. descriptor_at-laid mailbox k.queue uid (k.descriptors mailbox) ∙ ap (option_map (laid_over mailbox k.queue)) ((listed h legal mailbox).shown uid);
+      there = λ uid. some-laid (laid_over mailbox k.queue) (k.base mailbox uid);
     }
 
 -- ---- a mailbox without queued changes

@@ -1,5 +1,5 @@
 -- What holds of every legal history.
-use Rattle.std.specs.Prelude.{◌≡◌, ℕ, ◌+◌, ◌<◌, ◌==◌, ◌↔◌, Bool, true, false, not, ◌&&◌, ◌||◌, List, [], ◌∷◌, ◌++◌, map, length, None}
+use Rattle.std.specs.Prelude.{◌≡◌, ℕ, ◌+◌, ◌<◌, ◌==◌, ◌↔◌, Bool, true, false, not, ◌&&◌, ◌||◌, List, [], ◌∷◌, ◌++◌, map, length, None, is_some}
 use Rattle.std.specs.List.{AllByRecursion, filter, list_any}
 use Rattle.std.specs.Map.{keys_of}
 use Rattle.pc_message.specs.declared.descriptor.Descriptor.{Descriptor}
@@ -13,7 +13,7 @@ use Rattle.pc_cache_history.specs.Entry.{uid_of, shown_by}
 use Rattle.pc_history.specs.Flags.{flags_with}
 use Rattle.std.specs.Option.{option_map}
 use Rattle.pc_cache_history.specs.Record.{CacheRecord, descriptor_at, is_for}
-use Rattle.pc_cache_history.specs.Effect.{last_after, new_items}
+use Rattle.pc_cache_history.specs.Effect.{with_changes, last_after, new_items}
 use Rattle.pc_cache_history.specs.Known.{Known, said_by, after_entry}
 use Rattle.pc_cache_history.specs.View.{view, view_at}
 use Rattle.pc_cache_history.specs.History.{History, start, ◌▻◌, ◌▻▻◌, new_cache, known, next}
@@ -91,6 +91,13 @@ pub record AreCached (h : History) : Type 0 where
 abbrev pub MailboxesAreCached : Type 0
 MailboxesAreCached = (h : History) → IsLegal h → AreCached h
 
+-- after an entry the mailboxes that were there and still are come first, in their order, and behind them those that weren't there
+abbrev pub KeepOrder : History → CacheEntry → Type 0
+KeepOrder h e = (more : List (List ℕ)) × ((known (h ▻ e)).mailboxes ≡ filter (λ name. is_cached (h ▻ e) name) (known h).mailboxes ++ more) × AllByRecursion (λ name. is_cached h name ≡ false) more
+
+abbrev pub MailboxesKeepTheirOrder : Type 0
+MailboxesKeepTheirOrder = (h : History) (e : CacheEntry) → KeepOrder h e
+
 -- ---- the base
 
 -- descriptors by rising uid, which have at each uid what is known of it
@@ -114,6 +121,10 @@ pub record IsReplaced (before behind : Known) (mailbox : List ℕ) (changes : Li
 
 abbrev pub TookReplacesTheNamed : Type 0
 TookReplacesTheNamed = (h : History) (mailbox : List ℕ) (changes : List Change) → is_allowed (known h) (Took mailbox changes) ≡ true → IsReplaced (known h) (known (h ▻ Took mailbox changes)) mailbox changes
+
+-- by changes of a mailbox all descriptors get more or fewer as those of the mailbox do
+abbrev pub CountIsOfTheMailbox : Type 0
+CountIsOfTheMailbox = (h : History) (mailbox : List ℕ) (changes : List Change) → IsLegal h → descriptor_count (known (h ▻ Took mailbox changes)) + length ((known h).descriptors mailbox) ≡ descriptor_count (known h) + length (with_changes changes ((known h).descriptors mailbox))
 
 -- the base after Kept: of the mailboxes that are named what it was, of others nothing
 pub record IsCutTo (before behind : Known) (names : List (List ℕ)) : Type 0 where
@@ -193,6 +204,7 @@ NumbersComeOnce = (h : History) (entries : List CacheEntry) → AreNumberedOn h 
 pub record IsViewed (k : Known) (mailbox : List ℕ) : Type 0 where
   pub uids : map (λ (descriptor : Descriptor). descriptor.uid) (view k mailbox) ≡ map (λ (descriptor : Descriptor). descriptor.uid) (k.descriptors mailbox)
   pub shown : (uid : ℕ) → descriptor_at uid (view k mailbox) ≡ view_at k mailbox uid
+  pub there : (uid : ℕ) → is_some (view_at k mailbox uid) ≡ is_some (k.base mailbox uid)
 
 abbrev pub ViewIsOfBase : Type 0
 ViewIsOfBase = (h : History) → IsLegal h → (mailbox : List ℕ) → IsViewed (known h) mailbox

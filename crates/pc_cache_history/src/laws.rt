@@ -1,6 +1,6 @@
 //! What holds of every legal history. Each law is the contract of a function that does nothing.
 
-ghost use Rattle.pc_cache_history.specs.Laws.{RecordAnswersAsHistory, RecordInPlaceOfHistory, RecordIsCanonical, StepIsOneEntryMore, RecordIsReadOff, NewCacheIsLegal, LimitsHold, MailboxesAreCached, BaseIsListed, TookReplacesTheNamed, KeptLeavesTheOthersOut, BeginEmptiesTheBase, ResettingIsEmpty, QueueIsUnanswered, NumbersRise, NumbersComeOnce, ViewIsOfBase, ViewWithoutItems, QueuedIsShown};
+ghost use Rattle.pc_cache_history.specs.Laws.{RecordAnswersAsHistory, RecordInPlaceOfHistory, RecordIsCanonical, StepIsOneEntryMore, RecordIsReadOff, NewCacheIsLegal, LimitsHold, MailboxesAreCached, MailboxesKeepTheirOrder, BaseIsListed, TookReplacesTheNamed, CountIsOfTheMailbox, KeptLeavesTheOthersOut, BeginEmptiesTheBase, ResettingIsEmpty, QueueIsUnanswered, NumbersRise, NumbersComeOnce, ViewIsOfBase, ViewWithoutItems, QueuedIsShown};
 
 /// The record of a history answers every question as the history does.
 pub fn record_answers_as_history()
@@ -42,6 +42,11 @@ pub fn mailboxes_are_cached()
     ensures { MailboxesAreCached }
 {}
 
+/// Mailboxes keep their order, and new ones come last.
+pub fn mailboxes_keep_their_order()
+    ensures { MailboxesKeepTheirOrder }
+{}
+
 /// The descriptors of a mailbox rise, and show each uid of its base.
 pub fn base_is_listed()
     ensures { BaseIsListed }
@@ -50,6 +55,11 @@ pub fn base_is_listed()
 /// What is taken replaces the uids that it names, and nothing else.
 pub fn took_replaces_the_named()
     ensures { TookReplacesTheNamed }
+{}
+
+/// What is taken of a mailbox counts for what there is of it, and for no other.
+pub fn count_is_of_the_mailbox()
+    ensures { CountIsOfTheMailbox }
 {}
 
 /// Mailboxes that aren't kept are left out, and the others stay.
