@@ -52,11 +52,11 @@ module _ (h : History) where
     | false ↦ λ e. (taken ∷ [], ap (λ front. front ++ taken ∷ []) (sym (taken-stay taken)), (sym (members h taken) ∙ e, tt))
   ] refl
   keep-order (Kept kept) = (
-      [],
-      filter-agree (λ name. is_among name kept) (λ name. is_cached h name && is_among name kept) names (Every-weaker (λ name. is_cached h name ≡ true) (λ name. is_among name kept ≡ (is_cached h name && is_among name kept)) (λ name e. sym (ap (λ b. b && is_among name kept) e)) names each-cached)
-      ∙ sym (append-nil (filter (λ name. is_cached h name && is_among name kept) names)),
-      tt,
-      )
+    [],
+    filter-agree (λ name. is_among name kept) (λ name. is_cached h name && is_among name kept) names (Every-weaker (λ name. is_cached h name ≡ true) (λ name. is_among name kept ≡ (is_cached h name && is_among name kept)) (λ name e. sym (ap (λ b. b && is_among name kept) e)) names each-cached)
+        ∙ sym (append-nil (filter (λ name. is_cached h name && is_among name kept) names)),
+    tt,
+  )
   keep-order Synced = ([], all-stay, tt)
   keep-order (Queue mailbox uid flag on) = ([], all-stay, tt)
   keep-order (Answered number) = ([], all-stay, tt)

@@ -1,17 +1,17 @@
 -- What holds of every legal history.
 use Rattle.std.specs.Prelude.{◌≡◌, ℕ, ◌+◌, ◌<◌, ◌==◌, ◌↔◌, Bool, true, false, not, ◌&&◌, ◌||◌, List, [], ◌∷◌, ◌++◌, map, length, None, is_some}
+use Rattle.std.specs.Option.{option_map}
 use Rattle.std.specs.List.{AllByRecursion, filter, list_any}
 use Rattle.std.specs.Map.{keys_of}
 use Rattle.pc_message.specs.declared.descriptor.Descriptor.{Descriptor}
 use Rattle.pc_message.specs.declared.descriptor.Change.{Change}
+use Rattle.pc_history.specs.Flags.{flags_with}
 use Rattle.pc_history.specs.Table.{same, is_among, numbers, total}
 use Rattle.pc_history.specs.Legal.{AreDistinct}
 use Rattle.pc_cache_history.specs.declared.queued.Queued.{Queued}
 use Rattle.pc_cache_history.specs.declared.entry.CacheEntry.{CacheEntry}
 use Rattle.pc_cache_history.specs.declared.entry.CacheEntry.TheVariants.{Begin, Took, Kept, Queue, Answered}
 use Rattle.pc_cache_history.specs.Entry.{uid_of, shown_by}
-use Rattle.pc_history.specs.Flags.{flags_with}
-use Rattle.std.specs.Option.{option_map}
 use Rattle.pc_cache_history.specs.Record.{CacheRecord, descriptor_at, is_for}
 use Rattle.pc_cache_history.specs.Effect.{with_changes, last_after, new_items}
 use Rattle.pc_cache_history.specs.Known.{Known, said_by, after_entry}
