@@ -1,8 +1,9 @@
 -- One entry more: what the record says after it is what is known after it.
-use Rattle.std.proofs.Common.{◌≡◌, ℕ, ◌==◌, Bool, true, false, cond, not, nat_le, List, [], ◌∷◌, ◌++◌, length, map, filter, Option, None, Some, is_some, unwrap_or, option_map, refl, sym, ◌∙◌, ap, true≢false}
+use Rattle.std.proofs.Common.{◌≡◌, ℕ, ◌==◌, Bool, true, false, cond, not, ◌&&◌, nat_le, List, [], ◌∷◌, ◌++◌, length, map, filter, Option, None, Some, is_some, unwrap_or, option_map, refl, sym, ◌∙◌, ap, true≢false}
 use Rattle.std.specs.List.{list_all}
 use Rattle.std.specs.Map.{lookup, keys_of, set_value}
 use Rattle.std.specs.Option.{option_or}
+use Rattle.std.proofs.lemmas.Bool.{and_parts}
 use Rattle.pc_message.specs.declared.descriptor.Descriptor.{Descriptor}
 use Rattle.pc_message.specs.declared.descriptor.Change.{Change}
 use Rattle.pc_history.specs.Table.{same, is_among}
@@ -15,14 +16,17 @@ use Rattle.pc_cache_history.specs.Entry.{uid_of}
 use Rattle.pc_cache_history.specs.Record.{CacheRecord, descriptors_in, descriptor_at}
 use Rattle.pc_cache_history.specs.Effect.{with_changes, birth_after, resetting_after, mailboxes_after, base_after, descriptors_after, last_after, queue_after, shown}
 use Rattle.pc_cache_history.specs.Known.{Known, said_by, after_entry}
-use Rattle.pc_cache_history.specs.Allowed.{are_different, has_flags, are_changes, has_room, is_allowed}
+use Rattle.pc_cache_history.specs.Allowed.{are_different, has_flags, are_changes, is_short, has_room, is_allowed}
 use Rattle.pc_cache_history.specs.Step.{with_value, under, after}
 use Rattle.pc_cache_history.proofs.Descriptors.{descriptor_at-changes}
 
 -- ---- what an allowed entry has
 
-pub took-parts : (k : Known) (mailbox : List ℕ) (changes : List Change) → is_allowed k (Took mailbox changes) ≡ true → (not k.resetting ≡ true) × (are_changes changes ≡ true) × (has_room (after_entry k (Took mailbox changes)) ≡ true)
-took-parts k mailbox changes h = and3 (not k.resetting) (are_changes changes) (has_room (after_entry k (Took mailbox changes))) h
+pub took-parts : (k : Known) (mailbox : List ℕ) (changes : List Change) → is_allowed k (Took mailbox changes) ≡ true → (not k.resetting ≡ true) × (are_changes changes ≡ true) × (is_short mailbox changes ≡ true) × (has_room (after_entry k (Took mailbox changes)) ≡ true)
+took-parts k mailbox changes h =
+    let room = and_parts (not k.resetting && are_changes changes && is_short mailbox changes) (has_room (after_entry k (Took mailbox changes))) h in
+    let parts = and3 (not k.resetting) (are_changes changes) (is_short mailbox changes) room.0 in
+    (parts.0, parts.1, parts.2, room.1)
 
 pub changes-parts : (changes : List Change) → are_changes changes ≡ true → (nat_le (length changes) MOST_TAKEN ≡ true) × (are_different ◌==◌ (map uid_of changes) ≡ true) × (list_all has_flags changes ≡ true)
 changes-parts changes h = and3 (nat_le (length changes) MOST_TAKEN) (are_different ◌==◌ (map uid_of changes)) (list_all has_flags changes) h

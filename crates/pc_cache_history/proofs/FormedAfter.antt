@@ -38,7 +38,7 @@ kept-less false descriptors = omega arith
 pub IsWithin-after : (k : Known) (e : CacheEntry) → is_allowed k e ≡ true → IsWithin k → IsWithin (after_entry k e)
 IsWithin-after k (Took mailbox changes) allowed h =
     let after_it = after_entry k (Took mailbox changes) in
-    let room = and_parts (nat_le (length after_it.mailboxes) MOST_CACHED) (nat_le (descriptor_count after_it) MOST_DESCRIPTORS) (took-parts k mailbox changes allowed).2 in
+    let room = and_parts (nat_le (length after_it.mailboxes) MOST_CACHED) (nat_le (descriptor_count after_it) MOST_DESCRIPTORS) (took-parts k mailbox changes allowed).3 in
     record { mailboxes = leb-true (length after_it.mailboxes) MOST_CACHED room.0; descriptors = leb-true (descriptor_count after_it) MOST_DESCRIPTORS room.1; queue = h.queue; last = h.last }
 IsWithin-after k (Kept names) allowed h = record {
   mailboxes = omega (arith, h.mailboxes, length-filter-le (λ name. is_among name names) k.mailboxes);

@@ -1,9 +1,9 @@
 -- The mailboxes of a cache, and what is known of their messages.
-use Rattle.std.proofs.Common.{◌≡◌, ℕ, ◌+◌, ◌==◌, Bool, true, false, cond, not, ◌&&◌, ◌||◌, List, [], ◌∷◌, ◌++◌, length, map, filter, find, Option, None, Some, unwrap_or, refl, sym, ◌∙◌, ap, subst, eq-eqb, arith, true≢false}
+use Rattle.std.proofs.Common.{◌≡◌, ℕ, ◌+◌, ◌≤◌, ◌==◌, Bool, true, false, cond, not, ◌&&◌, ◌||◌, List, [], ◌∷◌, ◌++◌, length, map, filter, find, Option, None, Some, unwrap_or, refl, sym, ◌∙◌, ap, subst, eq-eqb, arith, true≢false}
 use Rattle.std.specs.List.{AllByRecursion as Every, list_any}
 use Rattle.std.specs.Map.{lookup, keys_of}
 use Rattle.std.specs.Option.{option_map_or}
-use Rattle.std.proofs.lemmas.Bool.{and_parts, or_parts, not-true}
+use Rattle.std.proofs.lemmas.Bool.{and_parts, or_parts, not-true, leb-true}
 use Rattle.std.proofs.lemmas.List.Folds.{list_any-append}
 use Rattle.pc_message.specs.declared.descriptor.Descriptor.{Descriptor}
 use Rattle.pc_message.specs.declared.descriptor.Change.{Change}
@@ -11,6 +11,7 @@ use Rattle.pc_history.specs.Table.{same, is_among, total}
 use Rattle.pc_history.specs.Legal.{AreDistinct}
 use Rattle.pc_history.proofs.Tables.{same-true, same-sym, same-refl, is_among-keys}
 use Rattle.pc_history.proofs.Uids.{Every-weaker, Every-zip}
+use Rattle.pc_cache_history.specs.declared.limits.TheConstants.{MOST_TAKEN_BYTES}
 use Rattle.pc_cache_history.specs.declared.entry.CacheEntry.{CacheEntry}
 use Rattle.pc_cache_history.specs.declared.entry.CacheEntry.TheVariants.{Begin, Synced, Took, Kept, Queue, Answered}
 use Rattle.pc_cache_history.specs.Entry.{uid_of, shown_by}
@@ -18,7 +19,7 @@ use Rattle.pc_cache_history.specs.Record.{CacheRecord, descriptors_in}
 use Rattle.pc_cache_history.specs.Effect.{shown}
 use Rattle.pc_cache_history.specs.Known.{Known, after_entry}
 use Rattle.pc_cache_history.specs.History.{History, start, ◌▻◌, ◌▻▻◌, known}
-use Rattle.pc_cache_history.specs.Allowed.{are_different, is_allowed, IsWithin}
+use Rattle.pc_cache_history.specs.Allowed.{are_different, took_bytes, is_allowed, IsWithin}
 use Rattle.pc_cache_history.specs.Step.{record_of}
 use Rattle.pc_cache_history.specs.Legal.{IsCanonical, IsLegal}
 use Rattle.pc_cache_history.specs.Laws.{IsReadOff, is_cached, AreCached, IsListed, is_named, IsReplaced, IsCutTo, IsBegun, IsEmptyWhereResetting, ResettingIsEmpty, NewCacheIsLegal}
@@ -145,6 +146,9 @@ replaced h mailbox changes allowed =
       others = λ other uid e. rw e;
       other_lists = λ other e. rw e;
     }
+
+pub taken-short : (h : History) (mailbox : List ℕ) (changes : List Change) → is_allowed (known h) (Took mailbox changes) ≡ true → took_bytes mailbox changes ≤ MOST_TAKEN_BYTES
+taken-short h mailbox changes allowed = leb-true (took_bytes mailbox changes) MOST_TAKEN_BYTES (took-parts (known h) mailbox changes allowed).2
 
 pub cut-to : (h : History) (names : List (List ℕ)) → IsCutTo (known h) (known (h ▻ Kept names)) names
 cut-to h names = record { named = λ mailbox uid e. rw e; unnamed = λ mailbox uid e. rw e; queue = refl }

@@ -1,10 +1,10 @@
 -- Which entries are allowed, and how much a cache may have.
-use Rattle.std.specs.Prelude.{ℕ, ◌==◌, ◌≤◌, Bool, true, not, ◌&&◌, nat_lt, nat_le, List, [], ◌∷◌, map, length, is_some}
+use Rattle.std.specs.Prelude.{ℕ, ◌+◌, ◌==◌, ◌≤◌, Bool, true, not, ◌&&◌, nat_lt, nat_le, List, [], ◌∷◌, map, length, is_some}
 use Rattle.std.specs.List.{list_any, list_all}
 use Rattle.pc_message.specs.declared.descriptor.Change.{Change}
 use Rattle.pc_message.specs.declared.descriptor.Change.TheVariants.{Present, Expunged}
 use Rattle.pc_history.specs.Table.{same, total}
-use Rattle.pc_cache_history.specs.declared.limits.TheConstants.{MOST_CACHED, MOST_DESCRIPTORS, MOST_TAKEN, MOST_NAMES, MOST_QUEUED, LAST_QUEUED}
+use Rattle.pc_cache_history.specs.declared.limits.TheConstants.{MOST_CACHED, MOST_DESCRIPTORS, MOST_TAKEN, MOST_TAKEN_BYTES, MOST_NAMES, MOST_QUEUED, LAST_QUEUED}
 use Rattle.pc_cache_history.specs.declared.entry.CacheEntry.{CacheEntry}
 use Rattle.pc_cache_history.specs.declared.entry.CacheEntry.TheVariants.{Begin, Synced, Took, Kept, Queue, Answered}
 use Rattle.pc_cache_history.specs.Entry.{uid_of}
@@ -32,6 +32,19 @@ has_flags (Expunged _) = true
 abbrev pub are_changes : List Change → Bool
 are_changes changes = nat_le (length changes) MOST_TAKEN && are_different ◌==◌ (map uid_of changes) && list_all has_flags changes
 
+-- in how many bytes a change is written: 5 where a message is gone; of one that is there 23, and its four texts
+abbrev pub change_bytes : Change → ℕ
+change_bytes (Present descriptor) = 23 + length descriptor.date + length descriptor.from + length descriptor.to + length descriptor.subject
+change_bytes (Expunged _) = 5
+
+-- in how many bytes a Took is written: 4 for its kind and the lengths of its two parts, the name of the mailbox, and the changes
+abbrev pub took_bytes : List ℕ → List Change → ℕ
+took_bytes mailbox changes = 4 + length mailbox + total change_bytes changes
+
+-- these changes are written in few enough bytes
+abbrev pub is_short : List ℕ → List Change → Bool
+is_short mailbox changes = nat_le (took_bytes mailbox changes) MOST_TAKEN_BYTES
+
 -- a change with this number is in the queue
 abbrev pub is_queued : Known → ℕ → Bool
 is_queued k number = list_any (λ item. item.number == number) k.queue
@@ -44,7 +57,7 @@ can_queue k = nat_lt (length k.queue) MOST_QUEUED && nat_lt k.last LAST_QUEUED
 abbrev pub is_allowed : Known → CacheEntry → Bool
 is_allowed k (Begin birth) = true
 is_allowed k Synced = k.resetting
-is_allowed k (Took mailbox changes) = not k.resetting && are_changes changes && has_room (after_entry k (Took mailbox changes))
+is_allowed k (Took mailbox changes) = not k.resetting && are_changes changes && is_short mailbox changes && has_room (after_entry k (Took mailbox changes))
 is_allowed k (Kept names) = not k.resetting && nat_le (length names) MOST_NAMES && are_different same names
 is_allowed k (Queue mailbox uid flag on) = is_some (k.base mailbox uid) && nat_le flag 15 && can_queue k
 is_allowed k (Answered number) = is_queued k number

@@ -1,5 +1,5 @@
 -- What holds of every legal history.
-use Rattle.std.specs.Prelude.{◌≡◌, ℕ, ◌+◌, ◌<◌, ◌==◌, ◌↔◌, Bool, true, false, not, ◌&&◌, ◌||◌, List, [], ◌∷◌, ◌++◌, map, length, None, is_some}
+use Rattle.std.specs.Prelude.{◌≡◌, ℕ, ◌+◌, ◌<◌, ◌≤◌, ◌==◌, ◌↔◌, Bool, true, false, not, ◌&&◌, ◌||◌, List, [], ◌∷◌, ◌++◌, map, length, None, is_some}
 use Rattle.std.specs.Option.{option_map}
 use Rattle.std.specs.List.{AllByRecursion, filter, list_any}
 use Rattle.std.specs.Map.{keys_of}
@@ -11,13 +11,14 @@ use Rattle.pc_history.specs.Legal.{AreDistinct}
 use Rattle.pc_cache_history.specs.declared.queued.Queued.{Queued}
 use Rattle.pc_cache_history.specs.declared.entry.CacheEntry.{CacheEntry}
 use Rattle.pc_cache_history.specs.declared.entry.CacheEntry.TheVariants.{Begin, Took, Kept, Queue, Answered}
+use Rattle.pc_cache_history.specs.declared.limits.TheConstants.{MOST_TAKEN_BYTES}
 use Rattle.pc_cache_history.specs.Entry.{uid_of, shown_by}
 use Rattle.pc_cache_history.specs.Record.{CacheRecord, descriptor_at, is_for}
 use Rattle.pc_cache_history.specs.Effect.{with_changes, last_after, new_items}
 use Rattle.pc_cache_history.specs.Known.{Known, said_by, after_entry}
 use Rattle.pc_cache_history.specs.View.{view, view_at}
 use Rattle.pc_cache_history.specs.History.{History, start, ◌▻◌, ◌▻▻◌, new_cache, known, next}
-use Rattle.pc_cache_history.specs.Allowed.{descriptor_count, is_allowed, IsWithin}
+use Rattle.pc_cache_history.specs.Allowed.{descriptor_count, took_bytes, is_allowed, IsWithin}
 use Rattle.pc_cache_history.specs.Step.{after, record_of}
 use Rattle.pc_cache_history.specs.Legal.{AreRising, AreInOrder, IsItem, IsCanonical, IsLegal}
 
@@ -121,6 +122,10 @@ pub record IsReplaced (before behind : Known) (mailbox : List ℕ) (changes : Li
 
 abbrev pub TookReplacesTheNamed : Type 0
 TookReplacesTheNamed = (h : History) (mailbox : List ℕ) (changes : List Change) → is_allowed (known h) (Took mailbox changes) ≡ true → IsReplaced (known h) (known (h ▻ Took mailbox changes)) mailbox changes
+
+-- changes that may be taken are written in few enough bytes
+abbrev pub TakenIsShort : Type 0
+TakenIsShort = (h : History) (mailbox : List ℕ) (changes : List Change) → is_allowed (known h) (Took mailbox changes) ≡ true → took_bytes mailbox changes ≤ MOST_TAKEN_BYTES
 
 -- by changes of a mailbox all descriptors get more or fewer as those of the mailbox do
 abbrev pub CountIsOfTheMailbox : Type 0

@@ -10,7 +10,7 @@ use Rattle.pc_cache_history.specs.declared.entry.CacheEntry.TheVariants.{Begin, 
 use Rattle.pc_cache_history.specs.Record.{CacheRecord}
 use Rattle.pc_cache_history.specs.View.{view, view_at}
 use Rattle.pc_cache_history.specs.History.{History, start, ◌▻◌, new_cache, known, next}
-use Rattle.pc_cache_history.specs.Allowed.{descriptor_count, is_allowed}
+use Rattle.pc_cache_history.specs.Allowed.{descriptor_count, took_bytes, is_allowed}
 use Rattle.pc_cache_history.specs.Step.{record_of}
 use Rattle.pc_cache_history.specs.Legal.{IsCanonical, IsLegal}
 
@@ -163,6 +163,10 @@ abbrev pub OnlyWhereSynced : Type 0
 OnlyWhereSynced = (allows new_cache (Begin 0 ∷ Synced ∷ Took inbox [] ∷ Kept [] ∷ Queue inbox 7 2 true ∷ Answered 1 ∷ []) ≡ true ∷ true ∷ false ∷ false ∷ false ∷ false ∷ [])
     × (allows synced (Begin 5 ∷ Synced ∷ Took inbox [] ∷ Kept [] ∷ Queue inbox 7 2 true ∷ Answered 1 ∷ []) ≡ true ∷ false ∷ true ∷ true ∷ false ∷ false ∷ [])
     × (allows begun_anew (Begin 9 ∷ Synced ∷ Took inbox [] ∷ Kept [] ∷ Queue inbox 7 2 true ∷ Answered 1 ∷ []) ≡ true ∷ true ∷ false ∷ false ∷ false ∷ true ∷ [])
+
+-- a Took of one message that is there and one that is gone
+abbrev pub TookIsWritten : Type 0
+TookIsWritten = (took_bytes inbox (there 3 0 ∷ Expunged 4 ∷ []) ≡ 46) × (took_bytes work [] ≡ 8)
 
 -- a uid twice, a flag past the sixteen, and a name twice
 abbrev pub NothingTwice : Type 0

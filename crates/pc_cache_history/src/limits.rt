@@ -9,6 +9,9 @@ pub const MOST_DESCRIPTORS: usize = 131_072;
 /// Changes that are taken at once.
 pub const MOST_TAKEN: usize = 32_768;
 
+/// Bytes that the changes taken at once are written in.
+pub const MOST_TAKEN_BYTES: usize = 8_388_608;
+
 /// Names of mailboxes that are kept.
 pub const MOST_NAMES: usize = 32_768;
 

@@ -1,6 +1,6 @@
 //! Small histories, with what their answers must be. Each law is the contract of a function that does nothing.
 
-ghost use Rattle.pc_cache_history.specs.Samples.{TwoTaken, FlagQueued, FlagAnswered, LastOneHolds, BegunAnew, UidsRise, GoneAndThere, LeftOut, EmptiedStays, OnlyWhereSynced, NothingTwice, NoSuchMessage, AnsweredOnce, QueueIsFull, SamplesAreLegal, NoBases};
+ghost use Rattle.pc_cache_history.specs.Samples.{TwoTaken, FlagQueued, FlagAnswered, LastOneHolds, BegunAnew, UidsRise, GoneAndThere, LeftOut, EmptiedStays, OnlyWhereSynced, TookIsWritten, NothingTwice, NoSuchMessage, AnsweredOnce, QueueIsFull, SamplesAreLegal, NoBases};
 
 /// Two messages are taken.
 pub fn two_taken()
@@ -50,6 +50,11 @@ pub fn emptied_stays()
 /// What is allowed before all mailboxes were taken, and after.
 pub fn only_where_synced()
     ensures { OnlyWhereSynced }
+{}
+
+/// In how many bytes changes are written.
+pub fn took_is_written()
+    ensures { TookIsWritten }
 {}
 
 /// Changes and names that can't be taken.
