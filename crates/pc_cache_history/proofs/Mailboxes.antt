@@ -156,7 +156,7 @@ cut-to h names = record { named = λ mailbox uid e. rw e; unnamed = λ mailbox u
 pub begun : (h : History) (birth : ℕ) → IsBegun (known h) (known (h ▻ Begin birth)) birth
 begun h birth = record { birth_is = refl; resetting = refl; mailboxes = refl; base = λ mailbox uid. refl; descriptors = λ mailbox. refl; last = refl; queue = refl }
 
--- ---- what isn't synced is empty
+-- ---- what is resetting is empty
 
 not-both : (b : Bool) {P : Type 0} → not b ≡ true → b ≡ true → P
 not-both true h g = absurd (true≢false (sym h))

@@ -38,13 +38,13 @@ abbrev pub birth_after : CacheEntry → ℕ → ℕ
 birth_after (Begin birth) before = birth
 birth_after _ before = before
 
--- the copies were begun, and aren't all taken yet
+-- the copies were begun, and the repository hasn't yet begun its lists anew
 abbrev pub resetting_after : CacheEntry → Bool → Bool
 resetting_after (Begin _) before = true
 resetting_after Synced before = false
 resetting_after _ before = before
 
--- the mailboxes that were taken since the last Begin and not left out since, in order of their first taking
+-- the mailboxes that were taken since the last Begin and not left out since, in order of their first taking since then: since the last Begin, or since they were left out
 abbrev pub mailboxes_after : CacheEntry → List (List ℕ) → List (List ℕ)
 mailboxes_after (Begin _) names = []
 mailboxes_after (Took mailbox _) names = if is_among mailbox names then names else names ++ mailbox ∷ []

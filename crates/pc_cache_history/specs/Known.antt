@@ -11,9 +11,9 @@ use Rattle.pc_cache_history.specs.Effect.{birth_after, resetting_after, mailboxe
 pub record Known : Type 0 where
   -- the birth of the client, or 0
   pub birth : ℕ
-  -- whether the copies were begun and aren't all taken yet
+  -- whether the copies were begun and the repository hasn't yet begun its lists anew
   pub resetting : Bool
-  -- the mailboxes, in order of their first taking
+  -- the mailboxes, in order of their first taking since the last Begin or since they were left out
   pub mailboxes : List (List ℕ)
   -- of a mailbox and a uid: the descriptor that was taken, where the message is there
   pub base : List ℕ → ℕ → Option Descriptor

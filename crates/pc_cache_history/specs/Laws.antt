@@ -83,7 +83,7 @@ is_cached (h ▻ Took taken _) mailbox = is_cached h mailbox || same mailbox tak
 is_cached (h ▻ Kept names) mailbox = is_cached h mailbox && is_among mailbox names
 is_cached (h ▻ _) mailbox = is_cached h mailbox
 
--- the mailboxes are those that were taken and not left out, each once; and none else has descriptors
+-- the mailboxes are those that were taken and not left out since the last Begin, each once; and none else has descriptors
 pub record AreCached (h : History) : Type 0 where
   pub members : (mailbox : List ℕ) → is_among mailbox (known h).mailboxes ≡ is_cached h mailbox
   pub distinct : AreDistinct (known h).mailboxes
@@ -153,11 +153,11 @@ pub record IsBegun (before behind : Known) (birth : ℕ) : Type 0 where
 abbrev pub BeginEmptiesTheBase : Type 0
 BeginEmptiesTheBase = (h : History) (birth : ℕ) → IsBegun (known h) (known (h ▻ Begin birth)) birth
 
--- a cache whose copies aren't all taken has none
+-- where the repository hasn't yet begun its lists anew, there are no copies
 abbrev pub IsEmptyWhereResetting : Known → Type 0
 IsEmptyWhereResetting k = k.resetting ≡ true → k.mailboxes ≡ []
 
--- so it is in a new cache, and no entry changes it
+-- so it is in a new cache, and no entry changes it; a base can be resetting and have mailboxes
 abbrev pub ResettingIsEmpty : Type 0
 ResettingIsEmpty = IsEmptyWhereResetting (known new_cache) × ((h : History) (entries : List CacheEntry) → IsLegal (h ▻▻ entries) → IsEmptyWhereResetting (known h) → IsEmptyWhereResetting (known (h ▻▻ entries)))
 

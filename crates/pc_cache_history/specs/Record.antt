@@ -6,9 +6,9 @@ use Rattle.pc_message.specs.declared.descriptor.Descriptor.{Descriptor}
 use Rattle.pc_history.specs.Table.{same}
 use Rattle.pc_cache_history.specs.declared.queued.Queued.{Queued}
 
--- the birth of the client; whether its copies were begun and aren't all taken yet; the mailboxes, each with the descriptors
--- of its messages by rising uid, in order of their first taking; the number of the last change that was queued; and the
--- changes that were queued and not answered, in order
+-- the birth of the client; whether its copies were begun and the repository hasn't yet begun its lists anew; the mailboxes,
+-- each with the descriptors of its messages by rising uid, in order of their first taking since the last Begin or since they
+-- were left out; the number of the last change that was queued; and the changes that were queued and not answered, in order
 pub record CacheRecord : Type 0 where
   pub birth : ℕ
   pub resetting : Bool

@@ -42,7 +42,7 @@ queue_of h = (known h).queue
 abbrev pub view_of : History → List ℕ → List Descriptor
 view_of h mailbox = view (known h) mailbox
 
--- a cache of a client of birth 5 that has all its mailboxes, which are none
+-- a cache of a client of birth 5 of which everything is listed anew; nothing is taken yet
 abbrev pub synced : History
 synced = new_cache ▻ Begin 5 ▻ Synced
 
@@ -130,7 +130,7 @@ GoneAndThere = (view_of (flag_queued ▻ Took inbox (Expunged 7 ∷ [])) inbox �
 abbrev pub two_mailboxes : History
 two_mailboxes = flag_queued ▻ Took work (there 1 0 ∷ [])
 
--- one is left out, and taken again
+-- one is left out
 abbrev pub left_out : History
 left_out = two_mailboxes ▻ Kept (work ∷ [])
 
@@ -158,7 +158,7 @@ EmptiedStays = ((known (two_mailboxes ▻ Took inbox (Expunged 3 ∷ Expunged 7 
 
 -- ---- what is allowed
 
--- before all mailboxes were taken, and after
+-- before the repository lists everything anew, and after
 abbrev pub OnlyWhereSynced : Type 0
 OnlyWhereSynced = (allows new_cache (Begin 0 ∷ Synced ∷ Took inbox [] ∷ Kept [] ∷ Queue inbox 7 2 true ∷ Answered 1 ∷ []) ≡ true ∷ true ∷ false ∷ false ∷ false ∷ false ∷ [])
     × (allows synced (Begin 5 ∷ Synced ∷ Took inbox [] ∷ Kept [] ∷ Queue inbox 7 2 true ∷ Answered 1 ∷ []) ≡ true ∷ false ∷ true ∷ true ∷ false ∷ false ∷ [])

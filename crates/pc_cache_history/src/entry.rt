@@ -13,7 +13,7 @@ pub enum CacheEntry {
     Begin {
         birth: u64,
     },
-    /// All mailboxes were taken.
+    /// The repository lists everything anew for this client, and from now on changes are taken.
     Synced,
     /// These changes of a mailbox were taken.
     Took {

@@ -37,7 +37,7 @@ pub fn limits_hold()
     ensures { LimitsHold }
 {}
 
-/// The mailboxes are those that were taken and not left out.
+/// The mailboxes are those that were taken and not left out since the last `Begin`.
 pub fn mailboxes_are_cached()
     ensures { MailboxesAreCached }
 {}
@@ -77,7 +77,7 @@ pub fn begin_empties_the_base()
     ensures { BeginEmptiesTheBase }
 {}
 
-/// A cache that isn't synced has no mailboxes.
+/// In what began with a new cache, one that is resetting has no mailboxes.
 pub fn resetting_is_empty()
     ensures { ResettingIsEmpty }
 {}

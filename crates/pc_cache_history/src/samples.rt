@@ -47,7 +47,7 @@ pub fn emptied_stays()
     ensures { EmptiedStays }
 {}
 
-/// What is allowed before all mailboxes were taken, and after.
+/// What is allowed before the repository lists everything anew, and after.
 pub fn only_where_synced()
     ensures { OnlyWhereSynced }
 {}
