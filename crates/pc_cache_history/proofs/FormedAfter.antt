@@ -1,8 +1,8 @@
 -- The record after an allowed entry is canonical again.
-use Rattle.std.proofs.Common.{◌≡◌, ℕ, suc, ◌<◌, ◌≤◌, ◌==◌, Bool, true, false, cond, not, nat_lt, nat_le, List, [], ◌∷◌, ◌++◌, length, filter, Some, is_some, unwrap_or, refl, ◌∙◌, subst, arith, length-append}
+use Rattle.std.proofs.Common.{◌≡◌, ℕ, suc, ◌<◌, ◌≤◌, ◌==◌, Bool, true, false, cond, not, ◌&&◌, nat_le, List, [], ◌∷◌, ◌++◌, length, filter, Some, is_some, unwrap_or, refl, ◌∙◌, subst, arith, length-append}
 use Rattle.std.specs.List.{AllByRecursion as Every}
 use Rattle.std.specs.Map.{lookup, keys_of, set_value}
-use Rattle.std.proofs.lemmas.Bool.{and_parts, or_parts, ltb-true, leb-true}
+use Rattle.std.proofs.lemmas.Bool.{and_parts, or_parts, not-true, leb-true, leb-false}
 use Rattle.pc_message.specs.declared.descriptor.Descriptor.{Descriptor}
 use Rattle.pc_history.specs.Table.{same, is_among}
 use Rattle.pc_history.specs.Legal.{AreDistinct}
@@ -17,7 +17,7 @@ use Rattle.pc_cache_history.specs.declared.entry.CacheEntry.TheVariants.{Begin, 
 use Rattle.pc_cache_history.specs.Record.{CacheRecord, descriptors_in}
 use Rattle.pc_cache_history.specs.Effect.{with_changes, mailboxes_after, new_items}
 use Rattle.pc_cache_history.specs.Known.{Known, said_by, after_entry}
-use Rattle.pc_cache_history.specs.Allowed.{descriptor_count, can_queue, is_allowed, IsWithin}
+use Rattle.pc_cache_history.specs.Allowed.{descriptor_count, queue_is_full, no_number_is_left, is_allowed, IsWithin}
 use Rattle.pc_cache_history.specs.Step.{with_value, after}
 use Rattle.pc_cache_history.specs.Legal.{AreDescriptors, IsItem, AreInOrder, IsCanonical}
 use Rattle.pc_cache_history.proofs.Descriptors.{AreDescriptors-changes}
@@ -27,9 +27,9 @@ use Rattle.pc_cache_history.proofs.Agreement.{took-parts, changes-parts, mailbox
 
 pub queue-parts : (k : Known) (mailbox : List ℕ) (uid flag : ℕ) (on : Bool) → is_allowed k (Queue mailbox uid flag on) ≡ true → (is_some (k.base mailbox uid) ≡ true) × (flag ≤ 15) × (length k.queue < MOST_QUEUED) × (k.last < LAST_QUEUED)
 queue-parts k mailbox uid flag on h =
-    let parts = and3 (is_some (k.base mailbox uid)) (nat_le flag 15) (can_queue k) h in
-    let room = and_parts (nat_lt (length k.queue) MOST_QUEUED) (nat_lt k.last LAST_QUEUED) parts.2 in
-    (parts.0, leb-true flag 15 parts.1, ltb-true (length k.queue) MOST_QUEUED room.0, ltb-true k.last LAST_QUEUED room.1)
+    let numbered = and_parts (is_some (k.base mailbox uid) && nat_le flag 15 && not (queue_is_full k)) (not (no_number_is_left k)) h in
+    let parts = and3 (is_some (k.base mailbox uid)) (nat_le flag 15) (not (queue_is_full k)) numbered.0 in
+    (parts.0, leb-true flag 15 parts.1, leb-false MOST_QUEUED (length k.queue) (not-true (queue_is_full k) parts.2), leb-false LAST_QUEUED k.last (not-true (no_number_is_left k) numbered.1))
 
 kept-less : (b : Bool) (descriptors : List Descriptor) → length (cond b descriptors []) ≤ length descriptors
 kept-less true descriptors = omega arith

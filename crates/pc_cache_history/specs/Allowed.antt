@@ -49,9 +49,13 @@ is_short mailbox changes = nat_le (took_bytes mailbox changes) MOST_TAKEN_BYTES
 abbrev pub is_queued : Known → ℕ → Bool
 is_queued k number = list_any (λ item. item.number == number) k.queue
 
--- one more change can be queued
-abbrev pub can_queue : Known → Bool
-can_queue k = nat_lt (length k.queue) MOST_QUEUED && nat_lt k.last LAST_QUEUED
+-- no more changes fit into the queue
+abbrev pub queue_is_full : Known → Bool
+queue_is_full k = nat_le MOST_QUEUED (length k.queue)
+
+-- no number is left for one more change
+abbrev pub no_number_is_left : Known → Bool
+no_number_is_left k = nat_le LAST_QUEUED k.last
 
 -- what an entry needs
 abbrev pub is_allowed : Known → CacheEntry → Bool
@@ -59,7 +63,7 @@ is_allowed k (Begin birth) = true
 is_allowed k Synced = k.resetting
 is_allowed k (Took mailbox changes) = not k.resetting && are_changes changes && is_short mailbox changes && has_room (after_entry k (Took mailbox changes))
 is_allowed k (Kept names) = not k.resetting && nat_le (length names) MOST_NAMES && are_different same names
-is_allowed k (Queue mailbox uid flag on) = is_some (k.base mailbox uid) && nat_le flag 15 && can_queue k
+is_allowed k (Queue mailbox uid flag on) = is_some (k.base mailbox uid) && nat_le flag 15 && not (queue_is_full k) && not (no_number_is_left k)
 is_allowed k (Answered number) = is_queued k number
 
 -- what holds at every place of a legal history, in its base too
