@@ -55,7 +55,7 @@ descriptor_at-placed uid new descriptors =
     ∙ placed-step uid new.uid (descriptor_at uid descriptors) (Some new)
     ∙ elim (new.uid == uid) as (λ b. option_or (cond b (Some new) None) (cond b None (descriptor_at uid descriptors)) ≡ cond b (Some new) (descriptor_at uid descriptors)) [ true ↦ refl | false ↦ refl ]
 
-descriptor_at-change : (uid : ℕ) (change : Change) (descriptors : List Descriptor) → descriptor_at uid (with_change change descriptors) ≡ cond (uid_of change == uid) (shown_by change) (descriptor_at uid descriptors)
+pub descriptor_at-change : (uid : ℕ) (change : Change) (descriptors : List Descriptor) → descriptor_at uid (with_change change descriptors) ≡ cond (uid_of change == uid) (shown_by change) (descriptor_at uid descriptors)
 descriptor_at-change uid (Present new) descriptors = descriptor_at-placed uid new descriptors
 descriptor_at-change uid (Expunged gone) descriptors =
     descriptor_at-filter (λ n. not (n == gone)) uid descriptors
@@ -68,6 +68,11 @@ unnamed uid [] h = refl
 unnamed uid (change ∷ changes) h =
     let parts = or_parts (uid == uid_of change) (list_any (λ other. uid == other) (map uid_of changes)) h in
     rw (eqb-sym (uid_of change) uid ∙ parts.0) (unnamed uid changes parts.1)
+
+-- these changes name other uids
+pub differ : (uid : ℕ) (changes : List Change) → list_any (λ other. uid == other) (map uid_of changes) ≡ false → Every (λ (change : Change). (uid == uid_of change) ≡ false) changes
+differ uid [] h = tt
+differ uid (change ∷ changes) h = let parts = or_parts (uid == uid_of change) (list_any (λ other. uid == other) (map uid_of changes)) h in (parts.0, differ uid changes parts.1)
 
 pub descriptor_at-changes : (uid : ℕ) (changes : List Change) (descriptors : List Descriptor) → are_different ◌==◌ (map uid_of changes) ≡ true → descriptor_at uid (with_changes changes descriptors) ≡ shown changes uid (descriptor_at uid descriptors)
 descriptor_at-changes uid [] descriptors h = refl

@@ -6,3 +6,4 @@ pub mod Mailboxes
 pub mod Queue
 pub mod Views
 pub mod Order
+pub mod Lists

@@ -23,6 +23,7 @@ use Rattle.pc_cache_history.specs.Allowed.{are_different, took_bytes, is_allowed
 use Rattle.pc_cache_history.specs.Step.{record_of}
 use Rattle.pc_cache_history.specs.Legal.{IsCanonical, IsLegal}
 use Rattle.pc_cache_history.specs.Laws.{IsReadOff, is_cached, AreCached, IsListed, is_named, IsReplaced, IsCutTo, IsBegun, IsEmptyWhereResetting, ResettingIsEmpty, NewCacheIsLegal}
+use Rattle.pc_cache_history.proofs.Descriptors.{differ}
 use Rattle.pc_cache_history.proofs.Agreement.{absent, took-parts, changes-parts}
 use Rattle.pc_cache_history.proofs.FormedAfter.{AreDescriptors-in}
 use Rattle.pc_cache_history.proofs.Histories.{Stands-legal, legal-front}
@@ -116,10 +117,6 @@ listed h legal mailbox =
 none-named : (uid : ℕ) (changes : List Change) → is_named uid changes ≡ false → ◌≡◌ {A = Option Change} (find (λ change. uid_of change == uid) changes) None
 none-named uid [] h = refl
 none-named uid (change ∷ changes) h = let parts = or_parts (uid_of change == uid) (is_named uid changes) h in rw parts.0 (none-named uid changes parts.1)
-
-differ : (uid : ℕ) (changes : List Change) → list_any (λ other. uid == other) (map uid_of changes) ≡ false → Every (λ (change : Change). (uid == uid_of change) ≡ false) changes
-differ uid [] h = tt
-differ uid (change ∷ changes) h = let parts = or_parts (uid == uid_of change) (list_any (λ other. uid == other) (map uid_of changes)) h in (parts.0, differ uid changes parts.1)
 
 -- what different changes say of a uid that one of them names is what it says
 SaysOwn : List Change → Change → Type 0

@@ -18,7 +18,7 @@ use Rattle.pc_cache_history.specs.Effect.{with_changes, last_after, new_items}
 use Rattle.pc_cache_history.specs.Known.{Known, said_by, after_entry}
 use Rattle.pc_cache_history.specs.View.{view, view_at}
 use Rattle.pc_cache_history.specs.History.{History, start, ◌▻◌, ◌▻▻◌, new_cache, known, next}
-use Rattle.pc_cache_history.specs.Allowed.{descriptor_count, took_bytes, is_allowed, IsWithin}
+use Rattle.pc_cache_history.specs.Allowed.{descriptor_count, are_different, took_bytes, is_allowed, IsWithin}
 use Rattle.pc_cache_history.specs.Step.{after, record_of}
 use Rattle.pc_cache_history.specs.Legal.{AreRising, AreInOrder, IsItem, IsCanonical, IsLegal}
 
@@ -126,6 +126,18 @@ TookReplacesTheNamed = (h : History) (mailbox : List ℕ) (changes : List Change
 -- changes that may be taken are written in few enough bytes
 abbrev pub TakenIsShort : Type 0
 TakenIsShort = (h : History) (mailbox : List ℕ) (changes : List Change) → is_allowed (known h) (Took mailbox changes) ≡ true → took_bytes mailbox changes ≤ MOST_TAKEN_BYTES
+
+-- the change says of a message that is among these that it is gone
+abbrev pub takes_away : List Descriptor → Change → Bool
+takes_away descriptors change = not (is_some (shown_by change)) && is_some (descriptor_at (uid_of change) descriptors)
+
+-- the change shows a message that isn't among these
+abbrev pub brings : List Descriptor → Change → Bool
+brings descriptors change = is_some (shown_by change) && not (is_some (descriptor_at (uid_of change) descriptors))
+
+-- how many descriptors there are once changes are taken: fewer by those that are gone, more by those that are new
+abbrev pub ChangesAreCounted : Type 0
+ChangesAreCounted = (changes : List Change) (descriptors : List Descriptor) → AreRising descriptors → are_different ◌==◌ (map uid_of changes) ≡ true → length (with_changes changes descriptors) + length (filter (takes_away descriptors) changes) ≡ length descriptors + length (filter (brings descriptors) changes)
 
 -- by changes of a mailbox all descriptors get more or fewer as those of the mailbox do
 abbrev pub CountIsOfTheMailbox : Type 0

@@ -1,6 +1,6 @@
 //! What holds of every legal history. Each law is the contract of a function that does nothing.
 
-ghost use Rattle.pc_cache_history.specs.Laws.{RecordAnswersAsHistory, RecordInPlaceOfHistory, RecordIsCanonical, StepIsOneEntryMore, RecordIsReadOff, NewCacheIsLegal, LimitsHold, MailboxesAreCached, MailboxesKeepTheirOrder, BaseIsListed, TookReplacesTheNamed, TakenIsShort, CountIsOfTheMailbox, KeptLeavesTheOthersOut, BeginEmptiesTheBase, ResettingIsEmpty, QueueIsUnanswered, NumbersRise, NumbersComeOnce, ViewIsOfBase, ViewWithoutItems, QueuedIsShown};
+ghost use Rattle.pc_cache_history.specs.Laws.{RecordAnswersAsHistory, RecordInPlaceOfHistory, RecordIsCanonical, StepIsOneEntryMore, RecordIsReadOff, NewCacheIsLegal, LimitsHold, MailboxesAreCached, MailboxesKeepTheirOrder, BaseIsListed, TookReplacesTheNamed, TakenIsShort, CountIsOfTheMailbox, KeptLeavesTheOthersOut, BeginEmptiesTheBase, ResettingIsEmpty, QueueIsUnanswered, NumbersRise, NumbersComeOnce, ViewIsOfBase, ViewWithoutItems, QueuedIsShown, ChangesAreCounted};
 
 /// The record of a history answers every question as the history does.
 pub fn record_answers_as_history()
@@ -60,6 +60,11 @@ pub fn took_replaces_the_named()
 /// What is taken is written in few enough bytes.
 pub fn taken_is_short()
     ensures { TakenIsShort }
+{}
+
+/// How many descriptors of a mailbox there are once changes are taken.
+pub fn changes_are_counted()
+    ensures { ChangesAreCounted }
 {}
 
 /// What is taken of a mailbox counts for what there is of it, and for no other.
