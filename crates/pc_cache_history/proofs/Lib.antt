@@ -7,3 +7,4 @@ pub mod Queue
 pub mod Views
 pub mod Order
 pub mod Lists
+pub mod Rest

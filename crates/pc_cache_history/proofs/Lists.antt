@@ -1,7 +1,7 @@
 -- Lists of descriptors by rising uid: what stands under a uid, when two are the same, and how long they are after changes.
-use Rattle.std.proofs.Common.{◌≡◌, ℕ, suc, ◌+◌, ◌<◌, ◌==◌, Bool, true, false, cond, not, ◌&&◌, nat_lt, List, [], ◌∷◌, ◌++◌, length, map, filter, Option, None, Some, is_some, refl, sym, ◌∙◌, ap, inl, inr, arith, eq-eqb, ne_eqb, lt-ltb, le-ltb, length-append}
+use Rattle.std.proofs.Common.{◌≡◌, ℕ, suc, ◌+◌, ◌<◌, ◌==◌, Bool, true, false, cond, not, ◌&&◌, nat_lt, List, [], ◌∷◌, ◌++◌, length, map, filter, Option, None, Some, is_some, refl, sym, ◌∙◌, ap, subst, inl, inr, arith, eq-eqb, ne_eqb, lt-ltb, le-ltb, length-append}
 use Rattle.std.specs.List.{AllByRecursion as Every, list_any}
-use Rattle.std.proofs.lemmas.Bool.{cases_order, and_parts, not-true}
+use Rattle.std.proofs.lemmas.Bool.{cases_order, and_parts, not-true, eqb-true}
 use Rattle.pc_message.specs.declared.descriptor.Descriptor.{Descriptor}
 use Rattle.pc_message.specs.declared.descriptor.Change.{Change}
 use Rattle.pc_message.specs.declared.descriptor.Change.TheVariants.{Present, Expunged}
@@ -20,6 +20,54 @@ use Rattle.pc_cache_history.proofs.Descriptors.{descriptor_at-change, rising-pla
 absent-below : (uid : ℕ) (descriptors : List Descriptor) → Every (λ (later : Descriptor). uid < later.uid) descriptors → descriptor_at uid descriptors ≡ None
 absent-below uid [] h = refl
 absent-below uid (descriptor ∷ descriptors) h = rw (ne_eqb descriptor.uid uid (λ e. absurd (omega (arith, h.0)))) (absent-below uid descriptors h.1)
+
+-- what stands under a uid has it, and is as all are
+pub found-own : (P : Descriptor → Type 0) (uid : ℕ) (found : Descriptor) (descriptors : List Descriptor) → Every P descriptors → descriptor_at uid descriptors ≡ Some found → (found.uid ≡ uid) × P found
+found-own P uid found [] all h = cc
+found-own P uid found (descriptor ∷ descriptors) all h = elim (descriptor.uid == uid) as (λ b. (descriptor.uid == uid) ≡ b → cond b (Some descriptor) (descriptor_at uid descriptors) ≡ Some found → (found.uid ≡ uid) × P found) [
+  | true ↦ λ e g. let same : descriptor ≡ found = cc in subst (λ (d : Descriptor). (d.uid ≡ uid) × P d) same (eqb-true descriptor.uid uid e, all.0)
+  | false ↦ λ e g. found-own P uid found descriptors all.1 g
+] refl h
+
+-- ---- when two lists are the same
+
+here : (descriptor : Descriptor) (descriptors : List Descriptor) → descriptor_at descriptor.uid (descriptor ∷ descriptors) ≡ Some descriptor
+here descriptor descriptors = rw (eq-eqb descriptor.uid descriptor.uid refl) refl
+
+-- no list begins with a lower uid than one that has the same under each uid
+not-lower : (one two : Descriptor) (ones twos : List Descriptor) → AreRising (two ∷ twos) → descriptor_at one.uid (one ∷ ones) ≡ descriptor_at one.uid (two ∷ twos) → one.uid < two.uid → ⊥
+not-lower one two ones twos rising alike lower =
+    let none : descriptor_at one.uid (two ∷ twos) ≡ None = absent-below one.uid (two ∷ twos) (lower, Every-weaker (λ (later : Descriptor). two.uid < later.uid) (λ (later : Descriptor). one.uid < later.uid) (λ later g. omega arith) twos rising.0) in
+    let found : descriptor_at one.uid (one ∷ ones) ≡ Some one = here one ones in
+    cc
+
+-- behind the same first one the same stands under each uid
+alike-behind : (one : Descriptor) (ones twos : List Descriptor) → AreRising (one ∷ ones) → AreRising (one ∷ twos) → (uid : ℕ) → descriptor_at uid (one ∷ ones) ≡ descriptor_at uid (one ∷ twos) → descriptor_at uid ones ≡ descriptor_at uid twos
+alike-behind one ones twos rising rising_two uid alike = elim (one.uid == uid) as (λ b. (one.uid == uid) ≡ b → cond b (Some one) (descriptor_at uid ones) ≡ cond b (Some one) (descriptor_at uid twos) → descriptor_at uid ones ≡ descriptor_at uid twos) [
+  | true ↦ λ e g. none ones rising.0 (eqb-true one.uid uid e) ∙ sym (none twos rising_two.0 (eqb-true one.uid uid e))
+  | false ↦ λ e g. g
+] refl alike
+  where
+    none : (rest : List Descriptor) → Every (λ (later : Descriptor). one.uid < later.uid) rest → one.uid ≡ uid → descriptor_at uid rest ≡ None
+    none rest h e = absent-below uid rest (Every-weaker (λ (later : Descriptor). one.uid < later.uid) (λ (later : Descriptor). uid < later.uid) (λ later g. omega arith) rest h)
+
+pub same-lists : (ones twos : List Descriptor) → AreRising ones → AreRising twos → ((uid : ℕ) → descriptor_at uid ones ≡ descriptor_at uid twos) → ones ≡ twos
+same-lists [] [] rising rising_two alike = refl
+same-lists [] (two ∷ twos) rising rising_two alike = let e : descriptor_at two.uid [] ≡ Some two = alike two.uid ∙ here two twos in cc
+same-lists (one ∷ ones) [] rising rising_two alike = let e : Some one ≡ descriptor_at one.uid [] = sym (here one ones) ∙ alike one.uid in cc
+same-lists (one ∷ ones) (two ∷ twos) rising rising_two alike = elim (cases_order one.uid two.uid) as (λ _. one ∷ ones ≡ two ∷ twos) [
+  | inl e ↦
+      let first : Some one ≡ Some two = sym (here one ones) ∙ alike one.uid ∙ ap (λ uid. descriptor_at uid (two ∷ twos)) e ∙ here two twos in
+      let same : two ≡ one = cc in
+      let rising_one : AreRising (one ∷ twos) = subst (λ (d : Descriptor). AreRising (d ∷ twos)) same rising_two in
+      let alike_one : (uid : ℕ) → descriptor_at uid (one ∷ ones) ≡ descriptor_at uid (one ∷ twos) = subst (λ (d : Descriptor). (uid : ℕ) → descriptor_at uid (one ∷ ones) ≡ descriptor_at uid (d ∷ twos)) same alike in
+      let rest : ones ≡ twos = same-lists ones twos rising.1 rising_two.1 (λ uid. alike-behind one ones twos rising rising_one uid (alike_one uid)) in
+      cc
+  | inr o ↦ elim o as (λ _. one ∷ ones ≡ two ∷ twos) [
+    | inl lower ↦ absurd (not-lower one two ones twos rising_two (alike one.uid) lower)
+    | inr higher ↦ absurd (not-lower two one twos ones rising (sym (alike two.uid)) higher)
+  ]
+]
 
 -- ---- how many there are
 

@@ -1,5 +1,5 @@
 -- The mailboxes of a cache, and what is known of their messages.
-use Rattle.std.proofs.Common.{◌≡◌, ℕ, ◌+◌, ◌≤◌, ◌==◌, Bool, true, false, cond, not, ◌&&◌, ◌||◌, List, [], ◌∷◌, ◌++◌, length, map, filter, find, Option, None, Some, unwrap_or, refl, sym, ◌∙◌, ap, subst, eq-eqb, arith, true≢false}
+use Rattle.std.proofs.Common.{◌≡◌, ℕ, ◌+◌, ◌<◌, ◌≤◌, ◌==◌, Bool, true, false, cond, not, ◌&&◌, ◌||◌, List, [], ◌∷◌, ◌++◌, length, map, filter, find, Option, None, Some, unwrap_or, refl, sym, ◌∙◌, ap, subst, eq-eqb, arith, true≢false}
 use Rattle.std.specs.List.{AllByRecursion as Every, list_any}
 use Rattle.std.specs.Map.{lookup, keys_of}
 use Rattle.std.specs.Option.{option_map_or}
@@ -27,6 +27,7 @@ use Rattle.pc_cache_history.proofs.Descriptors.{differ}
 use Rattle.pc_cache_history.proofs.Agreement.{absent, took-parts, changes-parts}
 use Rattle.pc_cache_history.proofs.FormedAfter.{AreDescriptors-in}
 use Rattle.pc_cache_history.proofs.Histories.{Stands-legal, legal-front}
+use Rattle.pc_cache_history.proofs.Lists.{found-own}
 
 -- ---- tables in which no name comes twice
 
@@ -113,6 +114,12 @@ pub listed : (h : History) → IsLegal h → (mailbox : List ℕ) → IsListed (
 listed h legal mailbox =
     let stands = Stands-legal h legal in
     subst (λ k. IsListed k mailbox) (sym stands.alike) (record { rising = (AreDescriptors-in (record_of h) stands.canonical mailbox).rising; shown = λ uid. refl })
+
+pub of-its-uids : (h : History) → IsLegal h → (mailbox : List ℕ) (uid : ℕ) (descriptor : Descriptor) → (known h).base mailbox uid ≡ Some descriptor → (descriptor.uid ≡ uid) × (descriptor.flags < 65536)
+of-its-uids h legal mailbox uid descriptor e =
+    let stands = Stands-legal h legal in
+    let are = AreDescriptors-in (record_of h) stands.canonical mailbox in
+    found-own (λ (found : Descriptor). found.flags < 65536) uid descriptor (descriptors_in (record_of h) mailbox) are.flags (subst (λ (k : Known). k.base mailbox uid ≡ Some descriptor) stands.alike e)
 
 none-named : (uid : ℕ) (changes : List Change) → is_named uid changes ≡ false → ◌≡◌ {A = Option Change} (find (λ change. uid_of change == uid) changes) None
 none-named uid [] h = refl

@@ -1,17 +1,19 @@
 -- The view is the base with the queue laid over it.
-use Rattle.std.proofs.Common.{◌≡◌, ℕ, suc, ◌==◌, true, false, cond, ◌&&◌, List, [], ◌∷◌, ◌++◌, map, Option, None, Some, is_some, option_map, refl, sym, ◌∙◌, ap, subst, eq-eqb}
-use Rattle.std.proofs.lemmas.Bool.{eqb-true}
+use Rattle.std.proofs.Common.{◌≡◌, ℕ, suc, ◌==◌, true, false, cond, not, ◌&&◌, List, [], ◌∷◌, ◌++◌, map, Option, None, Some, is_some, option_map, refl, sym, ◌∙◌, ap, subst, eq-eqb}
+use Rattle.std.proofs.lemmas.Bool.{eqb-true, or_parts}
 use Rattle.pc_message.specs.declared.descriptor.Descriptor.{Descriptor}
 use Rattle.pc_history.specs.Flags.{flags_with}
 use Rattle.pc_history.proofs.Tables.{same-refl}
 use Rattle.pc_cache_history.specs.declared.queued.Queued.{Queued}
-use Rattle.pc_cache_history.specs.declared.entry.CacheEntry.TheVariants.{Queue}
+use Rattle.pc_cache_history.specs.declared.entry.CacheEntry.TheVariants.{Queue, Answered}
 use Rattle.pc_cache_history.specs.Record.{descriptor_at, is_for}
 use Rattle.pc_cache_history.specs.Known.{Known}
 use Rattle.pc_cache_history.specs.View.{flags_with_item, flags_over, laid_over, view, view_at}
 use Rattle.pc_cache_history.specs.History.{History, ◌▻◌, known}
 use Rattle.pc_cache_history.specs.Legal.{IsLegal}
-use Rattle.pc_cache_history.specs.Laws.{IsViewed, NoneIsOf, set_flag, IsSetIn}
+use Rattle.pc_cache_history.specs.Laws.{IsViewed, NoneIsOf, set_flag, IsSetIn, is_change_of, IsAnsweredIn}
+use Rattle.pc_cache_history.specs.Effect.{other_items}
+use Rattle.std.specs.List.{list_any}
 use Rattle.pc_cache_history.proofs.Mailboxes.{listed}
 
 -- ---- the messages of a view
@@ -81,6 +83,10 @@ map-twice f g (Some descriptor) = refl
 laid-behind : (mailbox : List ℕ) (items : List Queued) (item : Queued) (descriptor : Descriptor) → laid_over mailbox (items ++ item ∷ []) descriptor ≡ record (laid_over mailbox items descriptor) { flags = flags_with_item mailbox descriptor.uid (flags_over mailbox descriptor.uid items descriptor.flags) item }
 laid-behind mailbox items item descriptor = ap (λ flags. record descriptor { flags = flags }) (flags-behind mailbox descriptor.uid items item descriptor.flags)
 
+-- what two functions make of a message of the base is the same where it is for its own uid
+at-base : (h : History) (legal : IsLegal h) (mailbox : List ℕ) (uid : ℕ) (P Q : Descriptor → Descriptor) → ((descriptor : Descriptor) → descriptor.uid ≡ uid → P descriptor ≡ Q descriptor) → option_map P ((known h).base mailbox uid) ≡ option_map Q ((known h).base mailbox uid)
+at-base h legal mailbox uid P Q same_there = subst (λ found. option_map P found ≡ option_map Q found) ((listed h legal mailbox).shown uid) (own-uid P Q uid same_there ((known h).descriptors mailbox))
+
 module _ (h : History) (item : Queued) (legal : IsLegal h) where
   abbrev before : Known
   before = known h
@@ -88,16 +94,30 @@ module _ (h : History) (item : Queued) (legal : IsLegal h) where
   abbrev added : Queued
   added = record item { number = suc before.last }
 
-  at-base : (mailbox : List ℕ) (uid : ℕ) (P Q : Descriptor → Descriptor) → ((descriptor : Descriptor) → descriptor.uid ≡ uid → P descriptor ≡ Q descriptor) → option_map P (before.base mailbox uid) ≡ option_map Q (before.base mailbox uid)
-  at-base mailbox uid P Q same_there = subst (λ found. option_map P found ≡ option_map Q found) ((listed h legal mailbox).shown uid) (own-uid P Q uid same_there (before.descriptors mailbox))
-
   pub set-in : IsSetIn before (known (h ▻ Queue item.mailbox item.uid item.flag item.on)) item
   set-in = record {
     here =
-        at-base item.mailbox item.uid (laid_over item.mailbox (before.queue ++ added ∷ [])) (λ descriptor. set_flag item.flag item.on (laid_over item.mailbox before.queue descriptor)) (λ descriptor e. laid-behind item.mailbox before.queue added descriptor ∙ ap (λ b. record descriptor { flags = cond b (flags_with (flags_over item.mailbox descriptor.uid before.queue descriptor.flags) item.flag item.on) (flags_over item.mailbox descriptor.uid before.queue descriptor.flags) }) (of-own descriptor.uid e))
+        at-base h legal item.mailbox item.uid (laid_over item.mailbox (before.queue ++ added ∷ [])) (λ descriptor. set_flag item.flag item.on (laid_over item.mailbox before.queue descriptor)) (λ descriptor e. laid-behind item.mailbox before.queue added descriptor ∙ ap (λ b. record descriptor { flags = cond b (flags_with (flags_over item.mailbox descriptor.uid before.queue descriptor.flags) item.flag item.on) (flags_over item.mailbox descriptor.uid before.queue descriptor.flags) }) (of-own descriptor.uid e))
         ∙ map-twice (set_flag item.flag item.on) (laid_over item.mailbox before.queue) (before.base item.mailbox item.uid);
-    others = λ mailbox uid other. at-base mailbox uid (laid_over mailbox (before.queue ++ added ∷ [])) (laid_over mailbox before.queue) (λ descriptor e. laid-behind mailbox before.queue added descriptor ∙ ap (λ b. record descriptor { flags = cond b (flags_with (flags_over mailbox descriptor.uid before.queue descriptor.flags) item.flag item.on) (flags_over mailbox descriptor.uid before.queue descriptor.flags) }) (ap (λ n. is_for mailbox n item) e ∙ other));
+    others = λ mailbox uid other. at-base h legal mailbox uid (laid_over mailbox (before.queue ++ added ∷ [])) (laid_over mailbox before.queue) (λ descriptor e. laid-behind mailbox before.queue added descriptor ∙ ap (λ b. record descriptor { flags = cond b (flags_with (flags_over mailbox descriptor.uid before.queue descriptor.flags) item.flag item.on) (flags_over mailbox descriptor.uid before.queue descriptor.flags) }) (ap (λ n. is_for mailbox n item) e ∙ other));
   }
     where
       of-own : (uid : ℕ) → uid ≡ item.uid → is_for item.mailbox uid item ≡ true
       of-own uid e = (λ i. same-refl item.mailbox i && (eq-eqb item.uid uid (sym e) i))
+
+-- ---- one change fewer in the queue
+
+flags-answered : (number : ℕ) (mailbox : List ℕ) (uid : ℕ) (items : List Queued) (flags : ℕ) → list_any (λ (item : Queued). item.number == number && is_for mailbox uid item) items ≡ false → flags_over mailbox uid (other_items number items) flags ≡ flags_over mailbox uid items flags
+flags-answered number mailbox uid [] flags h = refl
+flags-answered number mailbox uid (item ∷ items) flags h =
+    let parts = or_parts (item.number == number && is_for mailbox uid item) (list_any (λ (other : Queued). other.number == number && is_for mailbox uid other) items) h in
+    elim (item.number == number) as (λ b. (b && is_for mailbox uid item) ≡ false → flags_over mailbox uid (cond (not b) (item ∷ other_items number items) (other_items number items)) flags ≡ flags_over mailbox uid items (flags_with_item mailbox uid flags item)) [
+      | true ↦ λ e. flags-answered number mailbox uid items flags parts.1 ∙ ap (λ c. flags_over mailbox uid items (cond c (flags_with flags item.flag item.on) flags)) (sym e)
+      | false ↦ λ _. flags-answered number mailbox uid items (flags_with_item mailbox uid flags item) parts.1
+    ] parts.0
+
+pub answered-in : (h : History) (number : ℕ) → IsLegal h → IsAnsweredIn (known h) (known (h ▻ Answered number)) number
+answered-in h number legal = record {
+  here = λ mailbox uid. refl;
+  others = λ mailbox uid none. at-base h legal mailbox uid (laid_over mailbox (other_items number (known h).queue)) (laid_over mailbox (known h).queue) (λ descriptor e. ap (λ flags. record descriptor { flags = flags }) (flags-answered number mailbox descriptor.uid (known h).queue descriptor.flags (ap (λ n. is_change_of (known h) number mailbox n) e ∙ none)));
+}

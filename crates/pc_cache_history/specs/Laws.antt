@@ -1,5 +1,5 @@
 -- What holds of every legal history.
-use Rattle.std.specs.Prelude.{◌≡◌, ℕ, ◌+◌, ◌<◌, ◌≤◌, ◌==◌, ◌↔◌, Bool, true, false, not, ◌&&◌, ◌||◌, List, [], ◌∷◌, ◌++◌, map, length, None, is_some}
+use Rattle.std.specs.Prelude.{◌≡◌, ℕ, ◌+◌, ◌<◌, ◌≤◌, ◌==◌, ◌↔◌, Bool, true, false, not, ◌&&◌, ◌||◌, List, [], ◌∷◌, ◌++◌, map, length, Some, None, is_some}
 use Rattle.std.specs.Option.{option_map}
 use Rattle.std.specs.List.{AllByRecursion, filter, list_any}
 use Rattle.std.specs.Map.{keys_of}
@@ -10,13 +10,13 @@ use Rattle.pc_history.specs.Table.{same, is_among, numbers, total}
 use Rattle.pc_history.specs.Legal.{AreDistinct}
 use Rattle.pc_cache_history.specs.declared.queued.Queued.{Queued}
 use Rattle.pc_cache_history.specs.declared.entry.CacheEntry.{CacheEntry}
-use Rattle.pc_cache_history.specs.declared.entry.CacheEntry.TheVariants.{Begin, Took, Kept, Queue, Answered}
+use Rattle.pc_cache_history.specs.declared.entry.CacheEntry.TheVariants.{Begin, Synced, Took, Kept, Queue, Answered}
 use Rattle.pc_cache_history.specs.declared.limits.TheConstants.{MOST_TAKEN_BYTES}
 use Rattle.pc_cache_history.specs.Entry.{uid_of, shown_by}
 use Rattle.pc_cache_history.specs.Record.{CacheRecord, descriptor_at, is_for}
-use Rattle.pc_cache_history.specs.Effect.{with_changes, last_after, new_items}
+use Rattle.pc_cache_history.specs.Effect.{with_changes, last_after, new_items, other_items}
 use Rattle.pc_cache_history.specs.Known.{Known, said_by, after_entry}
-use Rattle.pc_cache_history.specs.View.{view, view_at}
+use Rattle.pc_cache_history.specs.View.{laid_over, view, view_at}
 use Rattle.pc_cache_history.specs.History.{History, start, ◌▻◌, ◌▻▻◌, new_cache, known, next}
 use Rattle.pc_cache_history.specs.Allowed.{descriptor_count, are_different, took_bytes, is_allowed, IsWithin}
 use Rattle.pc_cache_history.specs.Step.{after, record_of}
@@ -109,6 +109,14 @@ pub record IsListed (k : Known) (mailbox : List ℕ) : Type 0 where
 abbrev pub BaseIsListed : Type 0
 BaseIsListed = (h : History) → IsLegal h → (mailbox : List ℕ) → IsListed (known h) mailbox
 
+-- what is known under a uid is of this uid, with sixteen flags
+abbrev pub BaseIsOfItsUids : Type 0
+BaseIsOfItsUids = (h : History) → IsLegal h → (mailbox : List ℕ) (uid : ℕ) (descriptor : Descriptor) → (known h).base mailbox uid ≡ Some descriptor → (descriptor.uid ≡ uid) × (descriptor.flags < 65536)
+
+-- lists of descriptors by rising uid in which the same stands under each uid are the same
+abbrev pub RisingListsAreByUid : Type 0
+RisingListsAreByUid = (descriptors others : List Descriptor) → AreRising descriptors → AreRising others → ((uid : ℕ) → descriptor_at uid descriptors ≡ descriptor_at uid others) → descriptors ≡ others
+
 -- these changes name the uid
 abbrev pub is_named : ℕ → List Change → Bool
 is_named uid changes = list_any (λ change. uid_of change == uid) changes
@@ -172,6 +180,55 @@ IsEmptyWhereResetting k = k.resetting ≡ true → k.mailboxes ≡ []
 -- so it is in a new cache, and no entry changes it; a base can be resetting and have mailboxes
 abbrev pub ResettingIsEmpty : Type 0
 ResettingIsEmpty = IsEmptyWhereResetting (known new_cache) × ((h : History) (entries : List CacheEntry) → IsLegal (h ▻▻ entries) → IsEmptyWhereResetting (known h) → IsEmptyWhereResetting (known (h ▻▻ entries)))
+
+-- ---- what an entry leaves as it was
+
+-- a Begin
+abbrev pub is_begin : CacheEntry → Bool
+is_begin (Begin _) = true
+is_begin _ = false
+
+-- an entry that says whether the cache is resetting
+abbrev pub is_of_state : CacheEntry → Bool
+is_of_state (Begin _) = true
+is_of_state Synced = true
+is_of_state _ = false
+
+-- an entry that says something of the copies
+abbrev pub is_of_copies : CacheEntry → Bool
+is_of_copies (Begin _) = true
+is_of_copies (Took _ _) = true
+is_of_copies (Kept _) = true
+is_of_copies _ = false
+
+-- an entry that queues a change
+abbrev pub is_queue : CacheEntry → Bool
+is_queue (Queue _ _ _ _) = true
+is_queue _ = false
+
+-- an entry that says something of the queue
+abbrev pub is_of_queue : CacheEntry → Bool
+is_of_queue (Queue _ _ _ _) = true
+is_of_queue (Answered _) = true
+is_of_queue _ = false
+
+-- the copies are what they were
+pub record HasSameCopies (before behind : Known) : Type 0 where
+  pub mailboxes : behind.mailboxes ≡ before.mailboxes
+  pub base : (mailbox : List ℕ) (uid : ℕ) → behind.base mailbox uid ≡ before.base mailbox uid
+  pub descriptors : (mailbox : List ℕ) → behind.descriptors mailbox ≡ before.descriptors mailbox
+
+-- only Begin changes the birth; only Begin and Synced, whether the cache is resetting; only Begin, Took and Kept, the copies;
+-- only Queue, the last number; and only Queue and Answered, the queue
+pub record IsLeft (before behind : Known) (e : CacheEntry) : Type 0 where
+  pub birth : is_begin e ≡ false → behind.birth ≡ before.birth
+  pub resetting : is_of_state e ≡ false → behind.resetting ≡ before.resetting
+  pub copies : is_of_copies e ≡ false → HasSameCopies before behind
+  pub last : is_queue e ≡ false → behind.last ≡ before.last
+  pub queue : is_of_queue e ≡ false → behind.queue ≡ before.queue
+
+abbrev pub EntriesLeaveTheRest : Type 0
+EntriesLeaveTheRest = (h : History) (e : CacheEntry) → IsLeft (known h) (known (h ▻ e)) e
 
 -- ---- the queue
 
@@ -245,3 +302,16 @@ pub record IsSetIn (before behind : Known) (item : Queued) : Type 0 where
 
 abbrev pub QueuedIsShown : Type 0
 QueuedIsShown = (h : History) (item : Queued) → IsLegal h → IsSetIn (known h) (known (h ▻ Queue item.mailbox item.uid item.flag item.on)) item
+
+-- the change of this number is of the message
+abbrev pub is_change_of : Known → ℕ → List ℕ → ℕ → Bool
+is_change_of k number mailbox uid = list_any (λ item. item.number == number && is_for mailbox uid item) k.queue
+
+-- the view once a change is answered: what is still in the queue is laid over the base, and every message but that of the
+-- change is shown as it was
+pub record IsAnsweredIn (before behind : Known) (number : ℕ) : Type 0 where
+  pub here : (mailbox : List ℕ) (uid : ℕ) → view_at behind mailbox uid ≡ option_map (laid_over mailbox (other_items number before.queue)) (before.base mailbox uid)
+  pub others : (mailbox : List ℕ) (uid : ℕ) → is_change_of before number mailbox uid ≡ false → view_at behind mailbox uid ≡ view_at before mailbox uid
+
+abbrev pub AnsweredIsShown : Type 0
+AnsweredIsShown = (h : History) (number : ℕ) → IsLegal h → IsAnsweredIn (known h) (known (h ▻ Answered number)) number

@@ -1,6 +1,6 @@
 //! What holds of every legal history. Each law is the contract of a function that does nothing.
 
-ghost use Rattle.pc_cache_history.specs.Laws.{RecordAnswersAsHistory, RecordInPlaceOfHistory, RecordIsCanonical, StepIsOneEntryMore, RecordIsReadOff, NewCacheIsLegal, LimitsHold, MailboxesAreCached, MailboxesKeepTheirOrder, BaseIsListed, TookReplacesTheNamed, TakenIsShort, CountIsOfTheMailbox, KeptLeavesTheOthersOut, BeginEmptiesTheBase, ResettingIsEmpty, QueueIsUnanswered, NumbersRise, NumbersComeOnce, ViewIsOfBase, ViewWithoutItems, QueuedIsShown, ChangesAreCounted};
+ghost use Rattle.pc_cache_history.specs.Laws.{RecordAnswersAsHistory, RecordInPlaceOfHistory, RecordIsCanonical, StepIsOneEntryMore, RecordIsReadOff, NewCacheIsLegal, LimitsHold, MailboxesAreCached, MailboxesKeepTheirOrder, BaseIsListed, TookReplacesTheNamed, TakenIsShort, CountIsOfTheMailbox, KeptLeavesTheOthersOut, BeginEmptiesTheBase, ResettingIsEmpty, QueueIsUnanswered, NumbersRise, NumbersComeOnce, ViewIsOfBase, ViewWithoutItems, QueuedIsShown, ChangesAreCounted, EntriesLeaveTheRest, BaseIsOfItsUids, RisingListsAreByUid, AnsweredIsShown};
 
 /// The record of a history answers every question as the history does.
 pub fn record_answers_as_history()
@@ -52,6 +52,16 @@ pub fn base_is_listed()
     ensures { BaseIsListed }
 {}
 
+/// What stands under a uid is of this uid.
+pub fn base_is_of_its_uids()
+    ensures { BaseIsOfItsUids }
+{}
+
+/// The descriptors of a mailbox are told by what stands under each uid.
+pub fn rising_lists_are_by_uid()
+    ensures { RisingListsAreByUid }
+{}
+
 /// What is taken replaces the uids that it names, and nothing else.
 pub fn took_replaces_the_named()
     ensures { TookReplacesTheNamed }
@@ -87,6 +97,11 @@ pub fn resetting_is_empty()
     ensures { ResettingIsEmpty }
 {}
 
+/// What each entry leaves as it was.
+pub fn entries_leave_the_rest()
+    ensures { EntriesLeaveTheRest }
+{}
+
 /// A queued change stays in the queue until it is answered.
 pub fn queue_is_unanswered()
     ensures { QueueIsUnanswered }
@@ -115,4 +130,9 @@ pub fn view_without_items()
 /// A queued change is shown at its message, and at no other.
 pub fn queued_is_shown()
     ensures { QueuedIsShown }
+{}
+
+/// Once a change is answered, every message but its own is shown as before.
+pub fn answered_is_shown()
+    ensures { AnsweredIsShown }
 {}
