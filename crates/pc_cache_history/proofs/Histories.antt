@@ -4,7 +4,7 @@ use Rattle.pc_cache_history.specs.declared.entry.CacheEntry.{CacheEntry}
 use Rattle.pc_cache_history.specs.Known.{Known, said_by, after_entry}
 use Rattle.pc_cache_history.specs.View.{view, view_at}
 use Rattle.pc_cache_history.specs.History.{History, start, ◌▻◌, ◌▻▻◌, known, next}
-use Rattle.pc_cache_history.specs.Allowed.{descriptor_count, is_allowed}
+use Rattle.pc_cache_history.specs.Allowed.{descriptor_count, base_is_empty, is_allowed}
 use Rattle.pc_cache_history.specs.Step.{after, record_of}
 use Rattle.pc_cache_history.specs.Legal.{IsCanonical, IsLegal}
 use Rattle.pc_cache_history.specs.Laws.{AnswerAlike}
@@ -41,6 +41,7 @@ AnswerAlike-known g h n e = record {
   base = λ mailbox uid. ap (λ (k : Known). k.base mailbox uid) e;
   descriptors = λ mailbox. ap (λ (k : Known). k.descriptors mailbox) e;
   count = ap (λ (k : Known). descriptor_count k) e;
+  empty = ap (λ (k : Known). base_is_empty k) e;
   last = ap (λ (k : Known). k.last) e;
   queue = ap (λ (k : Known). k.queue) e;
   view = λ mailbox. ap (λ (k : Known). view k mailbox) e;

@@ -14,6 +14,10 @@ use Rattle.pc_cache_history.specs.Known.{Known, after_entry}
 abbrev pub descriptor_count : Known → ℕ
 descriptor_count k = total (λ mailbox. length (k.descriptors mailbox)) k.mailboxes
 
+-- the base is empty: there is no descriptor, whatever mailboxes there are
+abbrev pub base_is_empty : Known → Bool
+base_is_empty k = descriptor_count k == 0
+
 -- the mailboxes and their descriptors are not too many
 abbrev pub has_room : Known → Bool
 has_room k = nat_le (length k.mailboxes) MOST_CACHED && nat_le (descriptor_count k) MOST_DESCRIPTORS

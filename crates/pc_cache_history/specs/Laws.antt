@@ -18,7 +18,7 @@ use Rattle.pc_cache_history.specs.Effect.{with_changes, last_after, new_items, o
 use Rattle.pc_cache_history.specs.Known.{Known, said_by, after_entry}
 use Rattle.pc_cache_history.specs.View.{laid_over, view, view_at}
 use Rattle.pc_cache_history.specs.History.{History, start, ◌▻◌, ◌▻▻◌, new_cache, known, next}
-use Rattle.pc_cache_history.specs.Allowed.{descriptor_count, are_different, took_bytes, is_allowed, IsWithin}
+use Rattle.pc_cache_history.specs.Allowed.{descriptor_count, base_is_empty, are_different, took_bytes, is_allowed, IsWithin}
 use Rattle.pc_cache_history.specs.Step.{after, record_of}
 use Rattle.pc_cache_history.specs.Legal.{AreRising, AreInOrder, IsItem, IsCanonical, IsLegal}
 
@@ -33,6 +33,7 @@ pub record AnswerAlike (g h : History) : Type 0 where
   pub base : (mailbox : List ℕ) (uid : ℕ) → (known g).base mailbox uid ≡ (known h).base mailbox uid
   pub descriptors : (mailbox : List ℕ) → (known g).descriptors mailbox ≡ (known h).descriptors mailbox
   pub count : descriptor_count (known g) ≡ descriptor_count (known h)
+  pub empty : base_is_empty (known g) ≡ base_is_empty (known h)
   pub last : (known g).last ≡ (known h).last
   pub queue : (known g).queue ≡ (known h).queue
   pub view : (mailbox : List ℕ) → view (known g) mailbox ≡ view (known h) mailbox

@@ -10,7 +10,7 @@ use Rattle.pc_cache_history.specs.declared.entry.CacheEntry.TheVariants.{Begin, 
 use Rattle.pc_cache_history.specs.Record.{CacheRecord}
 use Rattle.pc_cache_history.specs.View.{view, view_at}
 use Rattle.pc_cache_history.specs.History.{History, start, ◌▻◌, new_cache, known, next}
-use Rattle.pc_cache_history.specs.Allowed.{descriptor_count, took_bytes, is_allowed}
+use Rattle.pc_cache_history.specs.Allowed.{descriptor_count, base_is_empty, took_bytes, is_allowed}
 use Rattle.pc_cache_history.specs.Step.{record_of}
 use Rattle.pc_cache_history.specs.Legal.{IsCanonical, IsLegal}
 
@@ -155,6 +155,14 @@ EmptiedStays = ((known (two_mailboxes ▻ Took inbox (Expunged 3 ∷ Expunged 7 
     × ((known (synced ▻ Kept (work ∷ []))).mailboxes ≡ [])
     × ((known (two_mailboxes ▻ Kept [])).mailboxes ≡ [])
     × ((known (two_mailboxes ▻ Kept (work ∷ inbox ∷ []))).mailboxes ≡ inbox ∷ work ∷ [])
+
+-- only descriptors make a base that isn't empty
+abbrev pub EmptyBases : Type 0
+EmptyBases = (base_is_empty (known new_cache) ≡ true)
+    × (base_is_empty (known (synced ▻ Took work [])) ≡ true)
+    × (base_is_empty (known (two_taken ▻ Took inbox (Expunged 7 ∷ []))) ≡ false)
+    × (base_is_empty (known (two_taken ▻ Took inbox (Expunged 3 ∷ Expunged 7 ∷ []))) ≡ true)
+    × (base_is_empty (known begun_anew) ≡ true)
 
 -- ---- what is allowed
 

@@ -1,6 +1,6 @@
 //! Small histories, with what their answers must be. Each law is the contract of a function that does nothing.
 
-ghost use Rattle.pc_cache_history.specs.Samples.{TwoTaken, FlagQueued, FlagAnswered, LastOneHolds, BegunAnew, UidsRise, GoneAndThere, LeftOut, EmptiedStays, OnlyWhereSynced, TookIsWritten, NothingTwice, NoSuchMessage, AnsweredOnce, QueueIsFull, SamplesAreLegal, NoBases};
+ghost use Rattle.pc_cache_history.specs.Samples.{TwoTaken, FlagQueued, FlagAnswered, LastOneHolds, BegunAnew, UidsRise, GoneAndThere, LeftOut, EmptiedStays, EmptyBases, OnlyWhereSynced, TookIsWritten, NothingTwice, NoSuchMessage, AnsweredOnce, QueueIsFull, SamplesAreLegal, NoBases};
 
 /// Two messages are taken.
 pub fn two_taken()
@@ -45,6 +45,11 @@ pub fn left_out()
 /// A mailbox without messages stays.
 pub fn emptied_stays()
     ensures { EmptiedStays }
+{}
+
+/// Bases that are empty, and one that isn't.
+pub fn empty_bases()
+    ensures { EmptyBases }
 {}
 
 /// What is allowed before the repository lists everything anew, and after.
