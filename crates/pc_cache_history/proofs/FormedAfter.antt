@@ -11,7 +11,7 @@ use Rattle.pc_history.proofs.Uids.{Every-weaker, Every-append, Every-filter}
 use Rattle.pc_history.proofs.Formed.{Ordered-filter, Ordered-push}
 use Rattle.pc_history.proofs.Numbers.{length-filter-le, total-le, total-filter}
 use Rattle.pc_cache_history.specs.declared.limits.TheConstants.{MOST_CACHED, MOST_DESCRIPTORS, MOST_QUEUED, LAST_QUEUED}
-use Rattle.pc_cache_history.specs.declared.queued.Queued.{Queued}
+use Rattle.pc_cache_history.specs.declared.item.Item.{Item}
 use Rattle.pc_cache_history.specs.declared.entry.CacheEntry.{CacheEntry}
 use Rattle.pc_cache_history.specs.declared.entry.CacheEntry.TheVariants.{Begin, Synced, Took, Kept, Queue, Answered}
 use Rattle.pc_cache_history.specs.Record.{CacheRecord, descriptors_in}
@@ -50,7 +50,7 @@ IsWithin-after k (Begin birth) allowed h = record { mailboxes = omega arith; des
 IsWithin-after k (Queue mailbox uid flag on) allowed h =
     let parts = queue-parts k mailbox uid flag on allowed in
     record { mailboxes = h.mailboxes; descriptors = h.descriptors; queue = omega (arith, parts.2, length-append k.queue (new_items (Queue mailbox uid flag on) k.last)); last = omega (arith, parts.3) }
-IsWithin-after k (Answered number) allowed h = record { mailboxes = h.mailboxes; descriptors = h.descriptors; queue = omega (arith, h.queue, length-filter-le (λ (item : Queued). not (item.number == number)) k.queue); last = h.last }
+IsWithin-after k (Answered number) allowed h = record { mailboxes = h.mailboxes; descriptors = h.descriptors; queue = omega (arith, h.queue, length-filter-le (λ (item : Item). not (item.number == number)) k.queue); last = h.last }
 IsWithin-after k Synced allowed h = record { mailboxes = h.mailboxes; descriptors = h.descriptors; queue = h.queue; last = h.last }
 
 -- ---- names
@@ -98,8 +98,8 @@ mailboxes-again r _ allowed h = h.mailboxes
 -- ---- the queue
 
 rising-again : (r : CacheRecord) (e : CacheEntry) → IsCanonical r → AreInOrder (after r e).queue
-rising-again r (Queue mailbox uid flag on) h = Ordered-push (λ (item later : Queued). item.number < later.number) r.queue (record { number = suc r.last; mailbox = mailbox; uid = uid; flag = flag; on = on }) h.rising (Every-weaker (IsItem r.last) (λ (item : Queued). item.number < suc r.last) (λ item g. omega (arith, g.given)) r.queue h.items)
-rising-again r (Answered number) h = Ordered-filter (λ (item later : Queued). item.number < later.number) (λ item. not (item.number == number)) r.queue h.rising
+rising-again r (Queue mailbox uid flag on) h = Ordered-push (λ (item later : Item). item.number < later.number) r.queue (record { number = suc r.last; mailbox = mailbox; uid = uid; flag = flag; on = on }) h.rising (Every-weaker (IsItem r.last) (λ (item : Item). item.number < suc r.last) (λ item g. omega (arith, g.given)) r.queue h.items)
+rising-again r (Answered number) h = Ordered-filter (λ (item later : Item). item.number < later.number) (λ item. not (item.number == number)) r.queue h.rising
 rising-again r Synced h = h.rising
 rising-again r _ h = h.rising
 

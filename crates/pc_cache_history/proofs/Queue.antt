@@ -5,7 +5,7 @@ use Rattle.std.proofs.lemmas.Bool.{eqb-true}
 use Rattle.std.proofs.lemmas.List.Elements.{filter-append}
 use Rattle.pc_history.specs.Table.{numbers}
 use Rattle.pc_history.proofs.Uids.{Every-weaker, filter-agree, filter-true}
-use Rattle.pc_cache_history.specs.declared.queued.Queued.{Queued}
+use Rattle.pc_cache_history.specs.declared.item.Item.{Item}
 use Rattle.pc_cache_history.specs.declared.entry.CacheEntry.{CacheEntry}
 use Rattle.pc_cache_history.specs.declared.entry.CacheEntry.TheVariants.{Synced, Queue, Answered}
 use Rattle.pc_cache_history.specs.Effect.{last_after, new_items, other_items, queue_after}
@@ -29,13 +29,13 @@ last-behind : (h : History) (entries : List CacheEntry) → (known (h ▻▻ ent
 last-behind h [] = omega arith
 last-behind h (e ∷ entries) = omega (arith, last-behind (h ▻ e) entries, last-further e (known h).last)
 
-given-numbers : (last : ℕ) (entries : List CacheEntry) → map (λ (item : Queued). item.number) (items_of last entries) ≡ numbers last (queue_count entries)
+given-numbers : (last : ℕ) (entries : List CacheEntry) → map (λ (item : Item). item.number) (items_of last entries) ≡ numbers last (queue_count entries)
 given-numbers last [] = refl
 given-numbers last (Queue mailbox uid flag on ∷ entries) = let more : 1 + queue_count entries ≡ suc (queue_count entries) = omega arith in ap (λ rest. suc last ∷ rest) (given-numbers (suc last) entries) ∙ ap (numbers last) (sym more)
 given-numbers last (Synced ∷ entries) = let same : 0 + queue_count entries ≡ queue_count entries = omega arith in given-numbers last entries ∙ ap (numbers last) (sym same)
 given-numbers last (_ ∷ entries) = let same : 0 + queue_count entries ≡ queue_count entries = omega arith in given-numbers last entries ∙ ap (numbers last) (sym same)
 
-later-items : (low last : ℕ) (entries : List CacheEntry) → low ≤ last → Every (λ (item : Queued). low < item.number) (items_of last entries)
+later-items : (low last : ℕ) (entries : List CacheEntry) → low ≤ last → Every (λ (item : Item). low < item.number) (items_of last entries)
 later-items low last [] h = tt
 later-items low last (Queue mailbox uid flag on ∷ entries) h = (omega arith, later-items low (suc last) entries (omega arith))
 later-items low last (Synced ∷ entries) h = later-items low last entries h
@@ -46,15 +46,15 @@ numbered-on h entries = record { last = last-behind h entries; given = given-num
 
 -- ---- what isn't answered
 
-queued-given : (last number : ℕ) (items : List Queued) → Every (IsItem last) items → list_any (λ (item : Queued). item.number == number) items ≡ true → number ≤ last
+queued-given : (last number : ℕ) (items : List Item) → Every (IsItem last) items → list_any (λ (item : Item). item.number == number) items ≡ true → number ≤ last
 queued-given last number [] h g = absurd (true≢false (sym g))
-queued-given last number (item ∷ items) h g = elim (item.number == number) as (λ b. (item.number == number) ≡ b → (b || list_any (λ (other : Queued). other.number == number) items) ≡ true → number ≤ last) [
+queued-given last number (item ∷ items) h g = elim (item.number == number) as (λ b. (item.number == number) ≡ b → (b || list_any (λ (other : Item). other.number == number) items) ≡ true → number ≤ last) [
   | true ↦ λ e f. let same = eqb-true item.number number e in omega (arith, h.0.given)
   | false ↦ λ e f. queued-given last number items h.1 f
 ] refl g
 
 -- an answer to one change, and then those of other entries
-answered-first : (number : ℕ) (entries : List CacheEntry) (items : List Queued) → unanswered entries (other_items number items) ≡ unanswered (Answered number ∷ entries) items
+answered-first : (number : ℕ) (entries : List CacheEntry) (items : List Item) → unanswered entries (other_items number items) ≡ unanswered (Answered number ∷ entries) items
 answered-first number entries [] = refl
 answered-first number entries (item ∷ items) = step (item.number == number) (number == item.number) (eqb-sym item.number number) (answered-first number entries items)
   where
@@ -65,10 +65,10 @@ answered-first number entries (item ∷ items) = step (item.number == number) (n
     step false false e rest = ap (λ left. cond (not (list_any (answers item.number) entries)) (item ∷ left) left) rest
 
 -- an answer to a change that was queued before answers none of these
-answered-before : (number last : ℕ) (entries : List CacheEntry) (items : List Queued) → number ≤ last → Every (λ (item : Queued). last < item.number) items → unanswered entries items ≡ unanswered (Answered number ∷ entries) items
-answered-before number last entries items h later = filter-agree (λ item. not (list_any (answers item.number) entries)) (λ item. not ((number == item.number) || list_any (answers item.number) entries)) items (Every-weaker (λ (item : Queued). last < item.number) (λ (item : Queued). not (list_any (answers item.number) entries) ≡ not ((number == item.number) || list_any (answers item.number) entries)) (λ item g. ap (λ b. not (b || list_any (answers item.number) entries)) (sym (ne_eqb number item.number (λ e. absurd (omega arith))))) items later)
+answered-before : (number last : ℕ) (entries : List CacheEntry) (items : List Item) → number ≤ last → Every (λ (item : Item). last < item.number) items → unanswered entries items ≡ unanswered (Answered number ∷ entries) items
+answered-before number last entries items h later = filter-agree (λ item. not (list_any (answers item.number) entries)) (λ item. not ((number == item.number) || list_any (answers item.number) entries)) items (Every-weaker (λ (item : Item). last < item.number) (λ (item : Item). not (list_any (answers item.number) entries) ≡ not ((number == item.number) || list_any (answers item.number) entries)) (λ item g. ap (λ b. not (b || list_any (answers item.number) entries)) (sym (ne_eqb number item.number (λ e. absurd (omega arith))))) items later)
 
-none-answered : (items : List Queued) → items ≡ unanswered [] items ++ []
+none-answered : (items : List Item) → items ≡ unanswered [] items ++ []
 none-answered items = sym (append-nil (unanswered [] items) ∙ filter-true items)
 
 pub queue-unanswered : (h : History) (entries : List CacheEntry) → IsLegal (h ▻▻ entries) → (known (h ▻▻ entries)).queue ≡ unanswered entries (known h).queue ++ unanswered entries (items_of (known h).last entries)
@@ -77,7 +77,7 @@ queue-unanswered h (e ∷ entries) legal = queue-unanswered (h ▻ e) entries le
   where
     step : (e' : CacheEntry) → IsLegal (h ▻ e') → unanswered entries (queue_after e' (known h).last (known h).queue) ++ unanswered entries (items_of (last_after e' (known h).last) entries) ≡ unanswered (e' ∷ entries) (known h).queue ++ unanswered (e' ∷ entries) (items_of (known h).last (e' ∷ entries))
     step (Queue mailbox uid flag on) front =
-        let stays = λ (item : Queued). not (list_any (answers item.number) entries) in
+        let stays = λ (item : Item). not (list_any (answers item.number) entries) in
         let item = new_items (Queue mailbox uid flag on) (known h).last in
         let later = items_of (suc (known h).last) entries in
         ap (λ front_items. front_items ++ unanswered entries later) (filter-append stays (known h).queue item)

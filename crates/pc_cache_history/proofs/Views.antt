@@ -4,7 +4,7 @@ use Rattle.std.proofs.lemmas.Bool.{eqb-true, or_parts}
 use Rattle.pc_message.specs.declared.descriptor.Descriptor.{Descriptor}
 use Rattle.pc_history.specs.Flags.{flags_with}
 use Rattle.pc_history.proofs.Tables.{same-refl}
-use Rattle.pc_cache_history.specs.declared.queued.Queued.{Queued}
+use Rattle.pc_cache_history.specs.declared.item.Item.{Item}
 use Rattle.pc_cache_history.specs.declared.entry.CacheEntry.TheVariants.{Queue, Answered}
 use Rattle.pc_cache_history.specs.Record.{descriptor_at, is_for}
 use Rattle.pc_cache_history.specs.Known.{Known}
@@ -18,11 +18,11 @@ use Rattle.pc_cache_history.proofs.Mailboxes.{listed}
 
 -- ---- the messages of a view
 
-uids-laid : (mailbox : List ℕ) (items : List Queued) (descriptors : List Descriptor) → map (λ (descriptor : Descriptor). descriptor.uid) (map (laid_over mailbox items) descriptors) ≡ map (λ (descriptor : Descriptor). descriptor.uid) descriptors
+uids-laid : (mailbox : List ℕ) (items : List Item) (descriptors : List Descriptor) → map (λ (descriptor : Descriptor). descriptor.uid) (map (laid_over mailbox items) descriptors) ≡ map (λ (descriptor : Descriptor). descriptor.uid) descriptors
 uids-laid mailbox items [] = refl
 uids-laid mailbox items (descriptor ∷ descriptors) = ap (λ uids. descriptor.uid ∷ uids) (uids-laid mailbox items descriptors)
 
-descriptor_at-laid : (mailbox : List ℕ) (items : List Queued) (uid : ℕ) (descriptors : List Descriptor) → descriptor_at uid (map (laid_over mailbox items) descriptors) ≡ option_map (laid_over mailbox items) (descriptor_at uid descriptors)
+descriptor_at-laid : (mailbox : List ℕ) (items : List Item) (uid : ℕ) (descriptors : List Descriptor) → descriptor_at uid (map (laid_over mailbox items) descriptors) ≡ option_map (laid_over mailbox items) (descriptor_at uid descriptors)
 descriptor_at-laid mailbox items uid [] = refl
 descriptor_at-laid mailbox items uid (descriptor ∷ descriptors) = elim (descriptor.uid == uid) as (λ b. cond b (Some (laid_over mailbox items descriptor)) (descriptor_at uid (map (laid_over mailbox items) descriptors)) ≡ option_map (laid_over mailbox items) (cond b (Some descriptor) (descriptor_at uid descriptors))) [ true ↦ refl | false ↦ descriptor_at-laid mailbox items uid descriptors ]
 
@@ -41,11 +41,11 @@ viewed h legal mailbox =
 
 -- ---- a mailbox without queued changes
 
-flags-left : (mailbox : List ℕ) (uid : ℕ) (items : List Queued) (flags : ℕ) → NoneIsOf mailbox items → flags_over mailbox uid items flags ≡ flags
+flags-left : (mailbox : List ℕ) (uid : ℕ) (items : List Item) (flags : ℕ) → NoneIsOf mailbox items → flags_over mailbox uid items flags ≡ flags
 flags-left mailbox uid [] flags h = refl
 flags-left mailbox uid (item ∷ items) flags h = ap (λ b. flags_over mailbox uid items (cond (b && item.uid == uid) (flags_with flags item.flag item.on) flags)) h.0 ∙ flags-left mailbox uid items flags h.1
 
-laid-left : (mailbox : List ℕ) (items : List Queued) → NoneIsOf mailbox items → (descriptor : Descriptor) → laid_over mailbox items descriptor ≡ descriptor
+laid-left : (mailbox : List ℕ) (items : List Item) → NoneIsOf mailbox items → (descriptor : Descriptor) → laid_over mailbox items descriptor ≡ descriptor
 laid-left mailbox items h descriptor = ap (λ flags. record descriptor { flags = flags }) (flags-left mailbox descriptor.uid items descriptor.flags h)
 
 map-left : (f : Descriptor → Descriptor) → ((descriptor : Descriptor) → f descriptor ≡ descriptor) → (descriptors : List Descriptor) → map f descriptors ≡ descriptors
@@ -63,7 +63,7 @@ without-items h mailbox none =
 
 -- ---- one more change in the queue
 
-flags-behind : (mailbox : List ℕ) (uid : ℕ) (items : List Queued) (item : Queued) (flags : ℕ) → flags_over mailbox uid (items ++ item ∷ []) flags ≡ flags_with_item mailbox uid (flags_over mailbox uid items flags) item
+flags-behind : (mailbox : List ℕ) (uid : ℕ) (items : List Item) (item : Item) (flags : ℕ) → flags_over mailbox uid (items ++ item ∷ []) flags ≡ flags_with_item mailbox uid (flags_over mailbox uid items flags) item
 flags-behind mailbox uid [] item flags = refl
 flags-behind mailbox uid (first ∷ items) item flags = flags-behind mailbox uid items item (flags_with_item mailbox uid flags first)
 
@@ -80,18 +80,18 @@ map-twice f g None = refl
 map-twice f g (Some descriptor) = refl
 
 -- what is laid over by one more change
-laid-behind : (mailbox : List ℕ) (items : List Queued) (item : Queued) (descriptor : Descriptor) → laid_over mailbox (items ++ item ∷ []) descriptor ≡ record (laid_over mailbox items descriptor) { flags = flags_with_item mailbox descriptor.uid (flags_over mailbox descriptor.uid items descriptor.flags) item }
+laid-behind : (mailbox : List ℕ) (items : List Item) (item : Item) (descriptor : Descriptor) → laid_over mailbox (items ++ item ∷ []) descriptor ≡ record (laid_over mailbox items descriptor) { flags = flags_with_item mailbox descriptor.uid (flags_over mailbox descriptor.uid items descriptor.flags) item }
 laid-behind mailbox items item descriptor = ap (λ flags. record descriptor { flags = flags }) (flags-behind mailbox descriptor.uid items item descriptor.flags)
 
 -- what two functions make of a message of the base is the same where it is for its own uid
 at-base : (h : History) (legal : IsLegal h) (mailbox : List ℕ) (uid : ℕ) (P Q : Descriptor → Descriptor) → ((descriptor : Descriptor) → descriptor.uid ≡ uid → P descriptor ≡ Q descriptor) → option_map P ((known h).base mailbox uid) ≡ option_map Q ((known h).base mailbox uid)
 at-base h legal mailbox uid P Q same_there = subst (λ found. option_map P found ≡ option_map Q found) ((listed h legal mailbox).shown uid) (own-uid P Q uid same_there ((known h).descriptors mailbox))
 
-module _ (h : History) (item : Queued) (legal : IsLegal h) where
+module _ (h : History) (item : Item) (legal : IsLegal h) where
   abbrev before : Known
   before = known h
 
-  abbrev added : Queued
+  abbrev added : Item
   added = record item { number = suc before.last }
 
   pub set-in : IsSetIn before (known (h ▻ Queue item.mailbox item.uid item.flag item.on)) item
@@ -107,10 +107,10 @@ module _ (h : History) (item : Queued) (legal : IsLegal h) where
 
 -- ---- one change fewer in the queue
 
-flags-answered : (number : ℕ) (mailbox : List ℕ) (uid : ℕ) (items : List Queued) (flags : ℕ) → list_any (λ (item : Queued). item.number == number && is_for mailbox uid item) items ≡ false → flags_over mailbox uid (other_items number items) flags ≡ flags_over mailbox uid items flags
+flags-answered : (number : ℕ) (mailbox : List ℕ) (uid : ℕ) (items : List Item) (flags : ℕ) → list_any (λ (item : Item). item.number == number && is_for mailbox uid item) items ≡ false → flags_over mailbox uid (other_items number items) flags ≡ flags_over mailbox uid items flags
 flags-answered number mailbox uid [] flags h = refl
 flags-answered number mailbox uid (item ∷ items) flags h =
-    let parts = or_parts (item.number == number && is_for mailbox uid item) (list_any (λ (other : Queued). other.number == number && is_for mailbox uid other) items) h in
+    let parts = or_parts (item.number == number && is_for mailbox uid item) (list_any (λ (other : Item). other.number == number && is_for mailbox uid other) items) h in
     elim (item.number == number) as (λ b. (b && is_for mailbox uid item) ≡ false → flags_over mailbox uid (cond (not b) (item ∷ other_items number items) (other_items number items)) flags ≡ flags_over mailbox uid items (flags_with_item mailbox uid flags item)) [
       | true ↦ λ e. flags-answered number mailbox uid items flags parts.1 ∙ ap (λ c. flags_over mailbox uid items (cond c (flags_with flags item.flag item.on) flags)) (sym e)
       | false ↦ λ _. flags-answered number mailbox uid items (flags_with_item mailbox uid flags item) parts.1

@@ -6,7 +6,7 @@ use Rattle.pc_message.specs.declared.descriptor.Descriptor.{Descriptor}
 use Rattle.pc_message.specs.declared.descriptor.Change.{Change}
 use Rattle.pc_message.specs.declared.descriptor.Change.TheVariants.{Present, Expunged}
 use Rattle.pc_history.specs.Table.{same, is_among}
-use Rattle.pc_cache_history.specs.declared.queued.Queued.{Queued}
+use Rattle.pc_cache_history.specs.declared.item.Item.{Item}
 use Rattle.pc_cache_history.specs.declared.entry.CacheEntry.{CacheEntry}
 use Rattle.pc_cache_history.specs.declared.entry.CacheEntry.TheVariants.{Begin, Synced, Took, Kept, Queue, Answered}
 use Rattle.pc_cache_history.specs.Entry.{uid_of, shown_by}
@@ -75,16 +75,16 @@ last_after (Queue _ _ _ _) last = suc last
 last_after _ last = last
 
 -- the change that the entry queues, where it does, behind the last one
-abbrev pub new_items : CacheEntry → ℕ → List Queued
+abbrev pub new_items : CacheEntry → ℕ → List Item
 new_items (Queue mailbox uid flag on) last = record { number = suc last; mailbox = mailbox; uid = uid; flag = flag; on = on } ∷ []
 new_items _ last = []
 
 -- the changes with other numbers
-abbrev pub other_items : ℕ → List Queued → List Queued
+abbrev pub other_items : ℕ → List Item → List Item
 other_items number items = filter (λ item. not (item.number == number)) items
 
 -- the changes that were queued and not answered, in order
-abbrev pub queue_after : CacheEntry → ℕ → List Queued → List Queued
+abbrev pub queue_after : CacheEntry → ℕ → List Item → List Item
 queue_after (Queue mailbox uid flag on) last items = items ++ new_items (Queue mailbox uid flag on) last
 queue_after (Answered number) last items = other_items number items
 queue_after _ last items = items

@@ -3,7 +3,7 @@
 use Rattle.std.specs.Prelude.{ℕ, Bool, List, Option}
 use Rattle.std.specs.Map.{keys_of}
 use Rattle.pc_message.specs.declared.descriptor.Descriptor.{Descriptor}
-use Rattle.pc_cache_history.specs.declared.queued.Queued.{Queued}
+use Rattle.pc_cache_history.specs.declared.item.Item.{Item}
 use Rattle.pc_cache_history.specs.declared.entry.CacheEntry.{CacheEntry}
 use Rattle.pc_cache_history.specs.Record.{CacheRecord, descriptors_in, descriptor_at}
 use Rattle.pc_cache_history.specs.Effect.{birth_after, resetting_after, mailboxes_after, base_after, descriptors_after, last_after, queue_after}
@@ -22,7 +22,7 @@ pub record Known : Type 0 where
   -- the number of the last change that was queued, or 0
   pub last : ℕ
   -- the changes that were queued and not answered, in order
-  pub queue : List Queued
+  pub queue : List Item
 
 -- what a record says
 abbrev pub said_by : CacheRecord → Known

@@ -8,7 +8,7 @@ use Rattle.pc_message.specs.declared.descriptor.Change.{Change}
 use Rattle.pc_history.specs.Flags.{flags_with}
 use Rattle.pc_history.specs.Table.{same, is_among, numbers, total}
 use Rattle.pc_history.specs.Legal.{AreDistinct}
-use Rattle.pc_cache_history.specs.declared.queued.Queued.{Queued}
+use Rattle.pc_cache_history.specs.declared.item.Item.{Item}
 use Rattle.pc_cache_history.specs.declared.entry.CacheEntry.{CacheEntry}
 use Rattle.pc_cache_history.specs.declared.entry.CacheEntry.TheVariants.{Begin, Synced, Took, Kept, Queue, Answered}
 use Rattle.pc_cache_history.specs.declared.limits.TheConstants.{MOST_TAKEN_BYTES}
@@ -234,7 +234,7 @@ EntriesLeaveTheRest = (h : History) (e : CacheEntry) → IsLeft (known h) (known
 -- ---- the queue
 
 -- the changes that entries queue, behind the last one
-abbrev pub items_of : ℕ → List CacheEntry → List Queued
+abbrev pub items_of : ℕ → List CacheEntry → List Item
 items_of last [] = []
 items_of last (e ∷ entries) = new_items e last ++ items_of (last_after e last) entries
 
@@ -244,7 +244,7 @@ answers number (Answered answered) = answered == number
 answers number _ = false
 
 -- those of the changes that none of these entries answers
-abbrev pub unanswered : List CacheEntry → List Queued → List Queued
+abbrev pub unanswered : List CacheEntry → List Item → List Item
 unanswered entries items = filter (λ item. not (list_any (answers item.number) entries)) items
 
 -- the queue is what it was and isn't answered since, and behind it what was queued since and isn't answered
@@ -267,8 +267,8 @@ queue_count (e ∷ entries) = last_after e 0 + queue_count entries
 -- changes get the numbers behind the last one, one after the other, whatever else comes between: none comes again
 pub record AreNumberedOn (h : History) (entries : List CacheEntry) : Type 0 where
   pub last : (known (h ▻▻ entries)).last ≡ (known h).last + queue_count entries
-  pub given : map (λ (item : Queued). item.number) (items_of (known h).last entries) ≡ numbers (known h).last (queue_count entries)
-  pub later : AllByRecursion (λ (item : Queued). (known h).last < item.number) (items_of (known h).last entries)
+  pub given : map (λ (item : Item). item.number) (items_of (known h).last entries) ≡ numbers (known h).last (queue_count entries)
+  pub later : AllByRecursion (λ (item : Item). (known h).last < item.number) (items_of (known h).last entries)
 
 abbrev pub NumbersComeOnce : Type 0
 NumbersComeOnce = (h : History) (entries : List CacheEntry) → AreNumberedOn h entries
@@ -285,8 +285,8 @@ abbrev pub ViewIsOfBase : Type 0
 ViewIsOfBase = (h : History) → IsLegal h → (mailbox : List ℕ) → IsViewed (known h) mailbox
 
 -- no queued change is of the mailbox
-abbrev pub NoneIsOf : List ℕ → List Queued → Type 0
-NoneIsOf mailbox items = AllByRecursion (λ (item : Queued). same item.mailbox mailbox ≡ false) items
+abbrev pub NoneIsOf : List ℕ → List Item → Type 0
+NoneIsOf mailbox items = AllByRecursion (λ (item : Item). same item.mailbox mailbox ≡ false) items
 
 -- then the view is the base
 abbrev pub ViewWithoutItems : Type 0
@@ -297,12 +297,12 @@ abbrev pub set_flag : ℕ → Bool → Descriptor → Descriptor
 set_flag flag on descriptor = record descriptor { flags = flags_with descriptor.flags flag on }
 
 -- the view once a change is queued: its message has the flag so, and every other is shown as it was
-pub record IsSetIn (before behind : Known) (item : Queued) : Type 0 where
+pub record IsSetIn (before behind : Known) (item : Item) : Type 0 where
   pub here : view_at behind item.mailbox item.uid ≡ option_map (set_flag item.flag item.on) (view_at before item.mailbox item.uid)
   pub others : (mailbox : List ℕ) (uid : ℕ) → is_for mailbox uid item ≡ false → view_at behind mailbox uid ≡ view_at before mailbox uid
 
 abbrev pub QueuedIsShown : Type 0
-QueuedIsShown = (h : History) (item : Queued) → IsLegal h → IsSetIn (known h) (known (h ▻ Queue item.mailbox item.uid item.flag item.on)) item
+QueuedIsShown = (h : History) (item : Item) → IsLegal h → IsSetIn (known h) (known (h ▻ Queue item.mailbox item.uid item.flag item.on)) item
 
 -- the change of this number is of the message
 abbrev pub is_change_of : Known → ℕ → List ℕ → ℕ → Bool

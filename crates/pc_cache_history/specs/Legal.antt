@@ -4,7 +4,7 @@ use Rattle.std.specs.List.{AllByRecursion}
 use Rattle.std.specs.Map.{keys_of}
 use Rattle.pc_message.specs.declared.descriptor.Descriptor.{Descriptor}
 use Rattle.pc_history.specs.Legal.{Ordered, AreDistinct}
-use Rattle.pc_cache_history.specs.declared.queued.Queued.{Queued}
+use Rattle.pc_cache_history.specs.declared.item.Item.{Item}
 use Rattle.pc_cache_history.specs.Record.{CacheRecord}
 use Rattle.pc_cache_history.specs.Known.{said_by}
 use Rattle.pc_cache_history.specs.History.{History, start, ◌▻◌, known}
@@ -20,14 +20,14 @@ pub record AreDescriptors (descriptors : List Descriptor) : Type 0 where
   pub flags : AllByRecursion (λ (descriptor : Descriptor). descriptor.flags < 65536) descriptors
 
 -- a change of one of the sixteen flags, with a number that was given
-pub record IsItem (last : ℕ) (item : Queued) : Type 0 where
+pub record IsItem (last : ℕ) (item : Item) : Type 0 where
   pub positive : 0 < item.number
   pub given : item.number ≤ last
   pub flag : item.flag ≤ 15
 
 -- by rising number
-abbrev pub AreInOrder : List Queued → Type 0
-AreInOrder items = Ordered (λ (item later : Queued). item.number < later.number) items
+abbrev pub AreInOrder : List Item → Type 0
+AreInOrder items = Ordered (λ (item later : Item). item.number < later.number) items
 
 -- a canonical record
 pub record IsCanonical (r : CacheRecord) : Type 0 where

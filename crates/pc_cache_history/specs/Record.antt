@@ -4,7 +4,7 @@ use Rattle.std.specs.List.{find}
 use Rattle.std.specs.Map.{lookup}
 use Rattle.pc_message.specs.declared.descriptor.Descriptor.{Descriptor}
 use Rattle.pc_history.specs.Table.{same}
-use Rattle.pc_cache_history.specs.declared.queued.Queued.{Queued}
+use Rattle.pc_cache_history.specs.declared.item.Item.{Item}
 
 -- the birth of the client; whether its copies were begun and the repository hasn't yet begun its lists anew; the mailboxes,
 -- each with the descriptors of its messages by rising uid, in order of their first taking since the last Begin or since they
@@ -14,7 +14,7 @@ pub record CacheRecord : Type 0 where
   pub resetting : Bool
   pub mailboxes : List (List ℕ × List Descriptor)
   pub last : ℕ
-  pub queue : List Queued
+  pub queue : List Item
 
 -- the record of a new cache
 abbrev pub empty_record : CacheRecord
@@ -29,5 +29,5 @@ abbrev pub descriptor_at : ℕ → List Descriptor → Option Descriptor
 descriptor_at uid descriptors = find (λ descriptor. descriptor.uid == uid) descriptors
 
 -- a queued change is of this message
-abbrev pub is_for : List ℕ → ℕ → Queued → Bool
+abbrev pub is_for : List ℕ → ℕ → Item → Bool
 is_for mailbox uid item = same item.mailbox mailbox && item.uid == uid

@@ -4,7 +4,7 @@ use Rattle.pc_message.specs.declared.descriptor.Descriptor.{Descriptor}
 use Rattle.pc_message.specs.declared.descriptor.Change.{Change}
 use Rattle.pc_message.specs.declared.descriptor.Change.TheVariants.{Present, Expunged}
 use Rattle.pc_history.specs.Table.{numbers}
-use Rattle.pc_cache_history.specs.declared.queued.Queued.{Queued}
+use Rattle.pc_cache_history.specs.declared.item.Item.{Item}
 use Rattle.pc_cache_history.specs.declared.entry.CacheEntry.{CacheEntry}
 use Rattle.pc_cache_history.specs.declared.entry.CacheEntry.TheVariants.{Begin, Synced, Took, Kept, Queue, Answered}
 use Rattle.pc_cache_history.specs.Record.{CacheRecord}
@@ -27,7 +27,7 @@ message uid flags = record { uid = uid; flags = flags; bytes = 300; lines = 4; d
 abbrev pub there : ℕ → ℕ → Change
 there uid flags = Present (message uid flags)
 
-abbrev pub item : ℕ → List ℕ → ℕ → ℕ → Bool → Queued
+abbrev pub item : ℕ → List ℕ → ℕ → ℕ → Bool → Item
 item number mailbox uid flag on = record { number = number; mailbox = mailbox; uid = uid; flag = flag; on = on }
 
 -- of each entry, whether it is allowed
@@ -35,7 +35,7 @@ abbrev pub allows : History → List CacheEntry → List Bool
 allows h entries = map (is_allowed (known h)) entries
 
 -- the queue at the end of a history
-abbrev pub queue_of : History → List Queued
+abbrev pub queue_of : History → List Item
 queue_of h = (known h).queue
 
 -- what is shown of a mailbox at the end of a history

@@ -3,21 +3,21 @@ use Rattle.std.specs.Prelude.{ℕ, List, [], ◌∷◌, map, Option, if◌then�
 use Rattle.std.specs.Option.{option_map}
 use Rattle.pc_message.specs.declared.descriptor.Descriptor.{Descriptor}
 use Rattle.pc_history.specs.Flags.{flags_with}
-use Rattle.pc_cache_history.specs.declared.queued.Queued.{Queued}
+use Rattle.pc_cache_history.specs.declared.item.Item.{Item}
 use Rattle.pc_cache_history.specs.Record.{is_for}
 use Rattle.pc_cache_history.specs.Known.{Known}
 
 -- the flags of a message with a queued change laid over them, if it is of this message
-abbrev pub flags_with_item : List ℕ → ℕ → ℕ → Queued → ℕ
+abbrev pub flags_with_item : List ℕ → ℕ → ℕ → Item → ℕ
 flags_with_item mailbox uid flags item = if is_for mailbox uid item then flags_with flags item.flag item.on else flags
 
 -- the flags of a message with queued changes laid over them, one after the other
-abbrev pub flags_over : List ℕ → ℕ → List Queued → ℕ → ℕ
+abbrev pub flags_over : List ℕ → ℕ → List Item → ℕ → ℕ
 flags_over mailbox uid [] flags = flags
 flags_over mailbox uid (item ∷ items) flags = flags_over mailbox uid items (flags_with_item mailbox uid flags item)
 
 -- a descriptor with the flags that a client shows
-abbrev pub laid_over : List ℕ → List Queued → Descriptor → Descriptor
+abbrev pub laid_over : List ℕ → List Item → Descriptor → Descriptor
 laid_over mailbox items descriptor = record descriptor { flags = flags_over mailbox descriptor.uid items descriptor.flags }
 
 -- the messages that a client shows of a mailbox, by rising uid

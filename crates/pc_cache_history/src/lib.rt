@@ -2,13 +2,13 @@
 #![tactic(auto)]
 
 mod entry;
+mod item;
 pub mod laws;
 mod limits;
-mod queued;
 pub mod samples;
 #[cfg(test)]
 mod tests;
 
 pub use entry::CacheEntry;
 pub use limits::{LAST_QUEUED, MOST_CACHED, MOST_DESCRIPTORS, MOST_NAMES, MOST_QUEUED, MOST_TAKEN, MOST_TAKEN_BYTES};
-pub use queued::Queued;
+pub use item::Item;

@@ -32,7 +32,7 @@ fn entries_have_tags(rt: HostRuntime) -> Result<(), Fail> {
 fn change_is_laid_over_its_message(rt: HostRuntime) -> Result<(), Fail> {
     let inbox = Name::read(b"inbox").ok_or("a name")?;
     let work = Name::read(b"work").ok_or("a name")?;
-    let item = Queued {
+    let item = Item {
         number: 1,
         mailbox: inbox,
         uid: 7,

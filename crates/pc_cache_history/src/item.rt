@@ -9,7 +9,7 @@ use pc_history::with_flag;
 
 /// A change of a flag that was queued and isn't answered.
 #[derive(Clone, Copy)]
-pub struct Queued {
+pub struct Item {
     pub number: u64,
     pub mailbox: Name,
     pub uid: u32,
@@ -17,7 +17,7 @@ pub struct Queued {
     pub on: bool,
 }
 
-impl Queued {
+impl Item {
     /// Whether the change is of this message.
     pub fn is_for(&self, mailbox: &Name, uid: u32) -> bool
         ensures { result ≡ is_for mailbox.now uid self.now }
