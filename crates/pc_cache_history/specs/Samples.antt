@@ -46,6 +46,13 @@ view_of h mailbox = view (known h) mailbox
 abbrev pub synced : History
 synced = new_cache ▻ Begin 5 ▻ Synced
 
+-- where there was no Begin either: changes are taken, and the client has no birth
+abbrev pub SyncedAtOnce : Type 0
+SyncedAtOnce = (allows new_cache (Synced ∷ []) ≡ true ∷ [])
+    × ((known (new_cache ▻ Synced)).resetting ≡ false)
+    × ((known (new_cache ▻ Synced)).birth ≡ 0)
+    × (allows (new_cache ▻ Synced) (Begin 5 ∷ Synced ∷ Took inbox [] ∷ Kept [] ∷ []) ≡ true ∷ false ∷ true ∷ true ∷ [])
+
 -- two messages were taken
 abbrev pub two_taken : History
 two_taken = synced ▻ Took inbox (there 3 0 ∷ there 7 1 ∷ [])
@@ -192,9 +199,13 @@ abbrev pub AnsweredOnce : Type 0
 AnsweredOnce = (allows flag_queued (Answered 0 ∷ Answered 1 ∷ Answered 2 ∷ []) ≡ false ∷ true ∷ false ∷ [])
     × (allows (three_queued ▻ Answered 2) (Answered 1 ∷ Answered 2 ∷ Answered 3 ∷ Answered 4 ∷ []) ≡ true ∷ false ∷ true ∷ false ∷ [])
 
+-- as many changes with numbers from 1 on
+abbrev pub some_items : ℕ → List Item
+some_items count = map (λ number. item number inbox 7 2 true) (numbers 0 count)
+
 -- a cache with one message, and as many changes of it in the queue
 abbrev pub waiting : ℕ → ℕ → History
-waiting count last = start (record { birth = 5; resetting = false; mailboxes = (inbox, message 7 1 ∷ []) ∷ []; last = last; queue = map (λ number. item number inbox 7 2 true) (numbers 0 count) }) 1
+waiting count last = start (record { birth = 5; resetting = false; mailboxes = (inbox, message 7 1 ∷ []) ∷ []; last = last; queue = some_items count }) 1
 
 -- 4,096 changes are the most of a queue, and 2^62 - 1 is the number of the last one
 abbrev pub QueueIsFull : Type 0
@@ -215,6 +226,44 @@ IsNoBase r = IsCanonical r → ⊥
 
 abbrev pub some_record : CacheRecord
 some_record = record { birth = 5; resetting = false; mailboxes = (inbox, message 3 0 ∷ message 7 1 ∷ []) ∷ (work, []) ∷ []; last = 3; queue = item 1 inbox 7 2 true ∷ item 3 inbox 3 0 true ∷ [] }
+
+-- nothing is asked of a record that is resetting: it can have mailboxes
+abbrev pub ResettingBase : Type 0
+ResettingBase = IsCanonical (record some_record { resetting = true })
+
+-- a history that goes on from a record
+abbrev pub based : History
+based = start some_record 9
+
+-- more is taken and queued behind it, and its first change is answered
+abbrev pub behind_base : History
+behind_base = based ▻ Took work (there 1 0 ∷ []) ▻ Queue work 1 4 true ▻ Answered 1
+
+-- what is known behind a base is what its record says, and what the entries behind it say
+abbrev pub BehindBase : Type 0
+BehindBase = ((known based).birth ≡ 5)
+    × ((known based).mailboxes ≡ inbox ∷ work ∷ [])
+    × ((known based).base inbox 7 ≡ Some (message 7 1))
+    × ((known based).last ≡ 3)
+    × (view_of based inbox ≡ message 3 1 ∷ message 7 5 ∷ [])
+    × (view_of based work ≡ [])
+    × (base_is_empty (known based) ≡ false)
+    × (next based ≡ 9)
+    × (allows based (Synced ∷ Took work [] ∷ Queue inbox 7 3 true ∷ Queue work 1 4 true ∷ Answered 1 ∷ Answered 2 ∷ Answered 3 ∷ []) ≡ false ∷ true ∷ true ∷ false ∷ true ∷ false ∷ true ∷ [])
+    × ((known behind_base).birth ≡ 5)
+    × ((known behind_base).mailboxes ≡ inbox ∷ work ∷ [])
+    × (queue_of behind_base ≡ item 3 inbox 3 0 true ∷ item 4 work 1 4 true ∷ [])
+    × (view_of behind_base inbox ≡ message 3 1 ∷ message 7 1 ∷ [])
+    × (view_of behind_base work ≡ message 1 16 ∷ [])
+    × (descriptor_count (known behind_base) ≡ 3)
+    × (next behind_base ≡ 12)
+    × ((known (behind_base ▻ Kept (work ∷ []))).mailboxes ≡ work ∷ [])
+    × (record_of behind_base ≡ record { birth = 5; resetting = false; mailboxes = (inbox, message 3 0 ∷ message 7 1 ∷ []) ∷ (work, message 1 0 ∷ []) ∷ []; last = 4; queue = item 3 inbox 3 0 true ∷ item 4 work 1 4 true ∷ [] })
+    × IsLegal behind_base
+
+-- a queue of one change more than the most
+abbrev pub QueueIsTooLong : Type 0
+QueueIsTooLong = IsNoBase (record some_record { last = 4097; queue = some_items 4097 })
 
 -- a name twice; uids that don't rise; a flag past the sixteen; and numbers that don't rise, or that weren't given
 abbrev pub NoBases : Type 0

@@ -1,6 +1,11 @@
 //! Small histories, with what their answers must be. Each law is the contract of a function that does nothing.
 
-ghost use Rattle.pc_cache_history.specs.Samples.{TwoTaken, FlagQueued, FlagAnswered, LastOneHolds, BegunAnew, UidsRise, GoneAndThere, LeftOut, EmptiedStays, EmptyBases, OnlyWhereSynced, TookIsWritten, NothingTwice, NoSuchMessage, AnsweredOnce, QueueIsFull, SamplesAreLegal, NoBases};
+ghost use Rattle.pc_cache_history.specs.Samples.{SyncedAtOnce, TwoTaken, FlagQueued, FlagAnswered, LastOneHolds, BegunAnew, UidsRise, GoneAndThere, LeftOut, EmptiedStays, EmptyBases, OnlyWhereSynced, TookIsWritten, NothingTwice, NoSuchMessage, AnsweredOnce, QueueIsFull, SamplesAreLegal, ResettingBase, BehindBase, QueueIsTooLong, NoBases};
+
+/// A new cache of which everything is listed anew, without a `Begin`.
+pub fn synced_at_once()
+    ensures { SyncedAtOnce }
+{}
 
 /// Two messages are taken.
 pub fn two_taken()
@@ -85,6 +90,21 @@ pub fn queue_is_full()
 /// The samples are legal histories.
 pub fn samples_are_legal()
     ensures { SamplesAreLegal }
+{}
+
+/// A record that is resetting and has mailboxes.
+pub fn resetting_base()
+    ensures { ResettingBase }
+{}
+
+/// What is known behind a base.
+pub fn behind_base()
+    ensures { BehindBase }
+{}
+
+/// A base whose queue is too long.
+pub fn queue_is_too_long()
+    ensures { QueueIsTooLong }
 {}
 
 /// Records that aren't canonical.
