@@ -1,5 +1,5 @@
 -- Small histories with what each answer must be.
-use Rattle.std.specs.Prelude.{◌≡◌, ℕ, Bool, true, false, List, [], ◌∷◌, map, codes, Some, None}
+use Rattle.std.specs.Prelude.{◌≡◌, ℕ, ◌-◌, Bool, true, false, List, [], ◌∷◌, map, codes, Some, None}
 use Rattle.pc_message.specs.declared.descriptor.Descriptor.{Descriptor}
 use Rattle.pc_message.specs.declared.descriptor.Change.{Change}
 use Rattle.pc_message.specs.declared.descriptor.Change.TheVariants.{Present, Expunged}
@@ -182,6 +182,18 @@ OnlyWhereSynced = (allows new_cache (Begin 0 ∷ Synced ∷ Took inbox [] ∷ Ke
 -- a Took of one message that is there and one that is gone
 abbrev pub TookIsWritten : Type 0
 TookIsWritten = (took_bytes inbox (there 3 0 ∷ Expunged 4 ∷ []) ≡ 46) × (took_bytes work [] ≡ 8)
+
+-- a message with four texts of 65,535 bytes, the last of them shorter by so many
+abbrev pub long_message : ℕ → ℕ → Change
+long_message less uid = let text = numbers 0 65535 in Present (record (message uid 0) { date = text; from = text; to = text; subject = numbers 0 (65535 - less) })
+
+-- 31 such messages, and one whose last text is shorter
+abbrev pub long_messages : ℕ → List Change
+long_messages less = long_message less 32 ∷ map (long_message 0) (numbers 0 31)
+
+-- 8,388,608 bytes are the most
+abbrev pub TookIsTooLong : Type 0
+TookIsTooLong = allows synced (Took inbox (long_messages 617) ∷ Took inbox (long_messages 616) ∷ []) ≡ true ∷ false ∷ []
 
 -- a uid twice, a flag past the sixteen, and a name twice
 abbrev pub NothingTwice : Type 0

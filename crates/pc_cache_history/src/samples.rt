@@ -1,6 +1,6 @@
 //! Small histories, with what their answers must be. Each law is the contract of a function that does nothing.
 
-ghost use Rattle.pc_cache_history.specs.Samples.{SyncedAtOnce, TwoTaken, FlagQueued, FlagAnswered, LastOneHolds, BegunAnew, UidsRise, GoneAndThere, LeftOut, EmptiedStays, EmptyBases, OnlyWhereSynced, TookIsWritten, NothingTwice, NoSuchMessage, AnsweredOnce, QueueIsFull, SamplesAreLegal, ResettingBase, BehindBase, QueueIsTooLong, NoBases};
+ghost use Rattle.pc_cache_history.specs.Samples.{SyncedAtOnce, TwoTaken, FlagQueued, FlagAnswered, LastOneHolds, BegunAnew, UidsRise, GoneAndThere, LeftOut, EmptiedStays, EmptyBases, OnlyWhereSynced, TookIsTooLong, TookIsWritten, NothingTwice, NoSuchMessage, AnsweredOnce, QueueIsFull, SamplesAreLegal, ResettingBase, BehindBase, QueueIsTooLong, NoBases};
 
 /// A new cache of which everything is listed anew, without a `Begin`.
 pub fn synced_at_once()
@@ -65,6 +65,11 @@ pub fn only_where_synced()
 /// In how many bytes changes are written.
 pub fn took_is_written()
     ensures { TookIsWritten }
+{}
+
+/// Changes that are too long to be taken at once.
+pub fn took_is_too_long()
+    ensures { TookIsTooLong }
 {}
 
 /// Changes and names that can't be taken.
