@@ -16,7 +16,7 @@ use Rattle.pc_cache_history.specs.declared.entry.CacheEntry.{CacheEntry}
 use Rattle.pc_cache_history.specs.declared.entry.CacheEntry.TheVariants.{Begin, Synced, Took, Kept, Queue, Answered}
 use Rattle.pc_cache_history.specs.Record.{CacheRecord, descriptors_in}
 use Rattle.pc_cache_history.specs.Effect.{with_changes, mailboxes_after, new_items}
-use Rattle.pc_cache_history.specs.Known.{Known, said_by, after_entry}
+use Rattle.pc_cache_history.specs.Known.{Known, has, said_by, after_entry}
 use Rattle.pc_cache_history.specs.Allowed.{descriptor_count, queue_is_full, no_number_is_left, is_allowed, IsWithin}
 use Rattle.pc_cache_history.specs.Step.{with_value, after}
 use Rattle.pc_cache_history.specs.Legal.{AreDescriptors, IsItem, AreInOrder, IsCanonical}
@@ -25,10 +25,10 @@ use Rattle.pc_cache_history.proofs.Agreement.{took-parts, changes-parts, mailbox
 
 -- ---- limits
 
-pub queue-parts : (k : Known) (mailbox : List ℕ) (uid flag : ℕ) (on : Bool) → is_allowed k (Queue mailbox uid flag on) ≡ true → (is_some (k.base mailbox uid) ≡ true) × (flag ≤ 15) × (length k.queue < MOST_QUEUED) × (k.last < LAST_QUEUED)
+pub queue-parts : (k : Known) (mailbox : List ℕ) (uid flag : ℕ) (on : Bool) → is_allowed k (Queue mailbox uid flag on) ≡ true → (has k mailbox uid ≡ true) × (flag ≤ 15) × (length k.queue < MOST_QUEUED) × (k.last < LAST_QUEUED)
 queue-parts k mailbox uid flag on h =
-    let numbered = and_parts (is_some (k.base mailbox uid) && nat_le flag 15 && not (queue_is_full k)) (not (no_number_is_left k)) h in
-    let parts = and3 (is_some (k.base mailbox uid)) (nat_le flag 15) (not (queue_is_full k)) numbered.0 in
+    let numbered = and_parts (has k mailbox uid && nat_le flag 15 && not (queue_is_full k)) (not (no_number_is_left k)) h in
+    let parts = and3 (has k mailbox uid) (nat_le flag 15) (not (queue_is_full k)) numbered.0 in
     (parts.0, leb-true flag 15 parts.1, leb-false MOST_QUEUED (length k.queue) (not-true (queue_is_full k) parts.2), leb-false LAST_QUEUED k.last (not-true (no_number_is_left k) numbered.1))
 
 kept-less : (b : Bool) (descriptors : List Descriptor) → length (cond b descriptors []) ≤ length descriptors

@@ -1,5 +1,5 @@
 -- What each entry leaves as it was.
-use Rattle.std.proofs.Common.{true, false, refl, true≢false}
+use Rattle.std.proofs.Common.{refl, true≢false}
 use Rattle.pc_cache_history.specs.declared.entry.CacheEntry.{CacheEntry}
 use Rattle.pc_cache_history.specs.declared.entry.CacheEntry.TheVariants.{Begin, Synced, Took, Kept, Queue, Answered}
 use Rattle.pc_cache_history.specs.History.{History, ◌▻◌, known}

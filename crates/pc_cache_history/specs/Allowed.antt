@@ -1,5 +1,5 @@
 -- Which entries are allowed, and how much a cache may have.
-use Rattle.std.specs.Prelude.{ℕ, ◌+◌, ◌==◌, ◌≤◌, Bool, true, not, ◌&&◌, nat_lt, nat_le, List, [], ◌∷◌, map, length, is_some}
+use Rattle.std.specs.Prelude.{ℕ, ◌+◌, ◌==◌, ◌≤◌, Bool, true, not, ◌&&◌, nat_lt, nat_le, List, [], ◌∷◌, map, length}
 use Rattle.std.specs.List.{list_any, list_all}
 use Rattle.pc_message.specs.declared.descriptor.Change.{Change}
 use Rattle.pc_message.specs.declared.descriptor.Change.TheVariants.{Present, Expunged}
@@ -8,7 +8,7 @@ use Rattle.pc_cache_history.specs.declared.limits.TheConstants.{MOST_CACHED, MOS
 use Rattle.pc_cache_history.specs.declared.entry.CacheEntry.{CacheEntry}
 use Rattle.pc_cache_history.specs.declared.entry.CacheEntry.TheVariants.{Begin, Synced, Took, Kept, Queue, Answered}
 use Rattle.pc_cache_history.specs.Entry.{uid_of}
-use Rattle.pc_cache_history.specs.Known.{Known, after_entry}
+use Rattle.pc_cache_history.specs.Known.{Known, has, after_entry}
 
 -- how many descriptors there are in the whole base
 abbrev pub descriptor_count : Known → ℕ
@@ -67,7 +67,7 @@ is_allowed k (Begin birth) = true
 is_allowed k Synced = k.resetting
 is_allowed k (Took mailbox changes) = not k.resetting && are_changes changes && is_short mailbox changes && has_room (after_entry k (Took mailbox changes))
 is_allowed k (Kept names) = not k.resetting && nat_le (length names) MOST_NAMES && are_different same names
-is_allowed k (Queue mailbox uid flag on) = is_some (k.base mailbox uid) && nat_le flag 15 && not (queue_is_full k) && not (no_number_is_left k)
+is_allowed k (Queue mailbox uid flag on) = has k mailbox uid && nat_le flag 15 && not (queue_is_full k) && not (no_number_is_left k)
 is_allowed k (Answered number) = is_queued k number
 
 -- what holds at every place of a legal history, in its base too

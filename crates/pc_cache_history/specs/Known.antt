@@ -1,6 +1,6 @@
 -- What is known of a cache at a place of its history: at the beginning what the record says,
 -- and after an entry what the entry decides, or else what was known before it.
-use Rattle.std.specs.Prelude.{ℕ, Bool, List, Option}
+use Rattle.std.specs.Prelude.{ℕ, Bool, List, Option, is_some}
 use Rattle.std.specs.Map.{keys_of}
 use Rattle.pc_message.specs.declared.descriptor.Descriptor.{Descriptor}
 use Rattle.pc_cache_history.specs.declared.item.Item.{Item}
@@ -23,6 +23,10 @@ pub record Known : Type 0 where
   pub last : ℕ
   -- the changes that were queued and not answered, in order
   pub queue : List Item
+
+-- the mailbox has a message with this uid
+abbrev pub has : Known → List ℕ → ℕ → Bool
+has k mailbox uid = is_some (k.base mailbox uid)
 
 -- what a record says
 abbrev pub said_by : CacheRecord → Known

@@ -15,7 +15,7 @@ use Rattle.pc_cache_history.specs.declared.limits.TheConstants.{MOST_TAKEN_BYTES
 use Rattle.pc_cache_history.specs.Entry.{uid_of, shown_by}
 use Rattle.pc_cache_history.specs.Record.{CacheRecord, descriptor_at, is_for}
 use Rattle.pc_cache_history.specs.Effect.{with_changes, last_after, new_items, other_items}
-use Rattle.pc_cache_history.specs.Known.{Known, said_by, after_entry}
+use Rattle.pc_cache_history.specs.Known.{Known, has, said_by, after_entry}
 use Rattle.pc_cache_history.specs.View.{laid_over, view, view_at}
 use Rattle.pc_cache_history.specs.History.{History, start, ◌▻◌, ◌▻▻◌, new_cache, known, next}
 use Rattle.pc_cache_history.specs.Allowed.{descriptor_count, base_is_empty, are_different, took_bytes, is_allowed, IsWithin}
@@ -279,7 +279,7 @@ NumbersComeOnce = (h : History) (entries : List CacheEntry) → AreNumberedOn h 
 pub record IsViewed (k : Known) (mailbox : List ℕ) : Type 0 where
   pub uids : map (λ (descriptor : Descriptor). descriptor.uid) (view k mailbox) ≡ map (λ (descriptor : Descriptor). descriptor.uid) (k.descriptors mailbox)
   pub shown : (uid : ℕ) → descriptor_at uid (view k mailbox) ≡ view_at k mailbox uid
-  pub there : (uid : ℕ) → is_some (view_at k mailbox uid) ≡ is_some (k.base mailbox uid)
+  pub there : (uid : ℕ) → is_some (view_at k mailbox uid) ≡ has k mailbox uid
 
 abbrev pub ViewIsOfBase : Type 0
 ViewIsOfBase = (h : History) → IsLegal h → (mailbox : List ℕ) → IsViewed (known h) mailbox

@@ -8,7 +8,7 @@ use Rattle.pc_cache_history.specs.declared.item.Item.{Item}
 use Rattle.pc_cache_history.specs.declared.entry.CacheEntry.{CacheEntry}
 use Rattle.pc_cache_history.specs.declared.entry.CacheEntry.TheVariants.{Begin, Synced, Took, Kept, Queue, Answered}
 use Rattle.pc_cache_history.specs.Record.{CacheRecord}
-use Rattle.pc_cache_history.specs.View.{view, view_at}
+use Rattle.pc_cache_history.specs.View.{view, shown_changes, view_at}
 use Rattle.pc_cache_history.specs.History.{History, start, ◌▻◌, new_cache, known, next}
 use Rattle.pc_cache_history.specs.Allowed.{descriptor_count, base_is_empty, took_bytes, is_allowed}
 use Rattle.pc_cache_history.specs.Step.{record_of}
@@ -80,6 +80,7 @@ abbrev pub FlagQueued : Type 0
 FlagQueued = (queue_of flag_queued ≡ item 1 inbox 7 2 true ∷ [])
     × ((known flag_queued).last ≡ 1)
     × (view_of flag_queued inbox ≡ message 3 0 ∷ message 7 5 ∷ [])
+    × (shown_changes (known flag_queued) inbox ≡ there 3 0 ∷ there 7 5 ∷ [])
     × (view_at (known flag_queued) inbox 7 ≡ Some (message 7 5))
     × (view_at (known flag_queued) inbox 8 ≡ None)
     × ((known flag_queued).base inbox 7 ≡ Some (message 7 1))

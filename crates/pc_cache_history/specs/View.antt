@@ -2,6 +2,8 @@
 use Rattle.std.specs.Prelude.{ℕ, List, [], ◌∷◌, map, Option, if◌then◌else◌}
 use Rattle.std.specs.Option.{option_map}
 use Rattle.pc_message.specs.declared.descriptor.Descriptor.{Descriptor}
+use Rattle.pc_message.specs.declared.descriptor.Change.{Change}
+use Rattle.pc_message.specs.declared.descriptor.Change.TheVariants.{Present}
 use Rattle.pc_history.specs.Flags.{flags_with}
 use Rattle.pc_cache_history.specs.declared.item.Item.{Item}
 use Rattle.pc_cache_history.specs.Record.{is_for}
@@ -23,6 +25,10 @@ laid_over mailbox items descriptor = record descriptor { flags = flags_over mail
 -- the messages that a client shows of a mailbox, by rising uid
 abbrev pub view : Known → List ℕ → List Descriptor
 view k mailbox = map (laid_over mailbox k.queue) (k.descriptors mailbox)
+
+-- the same as changes, each of a message that is there
+abbrev pub shown_changes : Known → List ℕ → List Change
+shown_changes k mailbox = map Present (view k mailbox)
 
 -- the message that a client shows under a uid
 abbrev pub view_at : Known → List ℕ → ℕ → Option Descriptor
