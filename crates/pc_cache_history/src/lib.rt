@@ -10,5 +10,8 @@ pub mod samples;
 mod tests;
 
 pub use entry::CacheEntry;
-pub use limits::{LAST_QUEUED, MOST_CACHED, MOST_DESCRIPTORS, MOST_NAMES, MOST_QUEUED, MOST_TAKEN, MOST_TAKEN_BYTES};
 pub use item::Item;
+pub use limits::{
+    LAST_QUEUED, MOST_CACHED, MOST_DESCRIPTORS, MOST_NAMES, MOST_QUEUED, MOST_TAKEN,
+    MOST_TAKEN_BYTES,
+};
