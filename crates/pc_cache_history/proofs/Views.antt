@@ -1,5 +1,6 @@
 -- The view is the base with the queue laid over it.
 use Rattle.std.proofs.Common.{◌≡◌, ℕ, suc, ◌==◌, true, false, cond, not, ◌&&◌, List, [], ◌∷◌, ◌++◌, map, Option, None, Some, is_some, option_map, refl, sym, ◌∙◌, ap, subst, eq-eqb}
+use Rattle.std.specs.List.{list_any}
 use Rattle.std.proofs.lemmas.Bool.{eqb-true, or_parts}
 use Rattle.pc_message.specs.declared.descriptor.Descriptor.{Descriptor}
 use Rattle.pc_history.specs.Flags.{flags_with}
@@ -7,13 +8,12 @@ use Rattle.pc_history.proofs.Tables.{same-refl}
 use Rattle.pc_cache_history.specs.declared.item.Item.{Item}
 use Rattle.pc_cache_history.specs.declared.entry.CacheEntry.TheVariants.{Queue, Answered}
 use Rattle.pc_cache_history.specs.Record.{descriptor_at, is_for}
+use Rattle.pc_cache_history.specs.Effect.{other_items}
 use Rattle.pc_cache_history.specs.Known.{Known}
 use Rattle.pc_cache_history.specs.View.{flags_with_item, flags_over, laid_over, view, view_at}
 use Rattle.pc_cache_history.specs.History.{History, ◌▻◌, known}
 use Rattle.pc_cache_history.specs.Legal.{IsLegal}
 use Rattle.pc_cache_history.specs.Laws.{IsViewed, NoneIsOf, set_flag, IsSetIn, is_change_of, IsAnsweredIn}
-use Rattle.pc_cache_history.specs.Effect.{other_items}
-use Rattle.std.specs.List.{list_any}
 use Rattle.pc_cache_history.proofs.Mailboxes.{listed}
 
 -- ---- the messages of a view

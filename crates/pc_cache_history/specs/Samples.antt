@@ -1,5 +1,5 @@
 -- Small histories with what each answer must be.
-use Rattle.std.specs.Prelude.{◌≡◌, ℕ, ◌-◌, Bool, true, false, List, [], ◌∷◌, map, codes, Some, None}
+use Rattle.std.specs.Prelude.{◌≡◌, ℕ, ◌-◌, Bool, true, false, List, [], ◌∷◌, map, replicate, codes, Some, None}
 use Rattle.pc_message.specs.declared.descriptor.Descriptor.{Descriptor}
 use Rattle.pc_message.specs.declared.descriptor.Change.{Change}
 use Rattle.pc_message.specs.declared.descriptor.Change.TheVariants.{Present, Expunged}
@@ -10,7 +10,7 @@ use Rattle.pc_cache_history.specs.declared.entry.CacheEntry.TheVariants.{Begin, 
 use Rattle.pc_cache_history.specs.Record.{CacheRecord}
 use Rattle.pc_cache_history.specs.View.{view, shown_changes, view_at}
 use Rattle.pc_cache_history.specs.History.{History, start, ◌▻◌, new_cache, known, next}
-use Rattle.pc_cache_history.specs.Allowed.{descriptor_count, base_is_empty, took_bytes, is_allowed}
+use Rattle.pc_cache_history.specs.Allowed.{descriptor_count, base_is_empty, took_bytes, queue_is_full, no_number_is_left, is_allowed}
 use Rattle.pc_cache_history.specs.Step.{record_of}
 use Rattle.pc_cache_history.specs.Legal.{IsCanonical, IsLegal}
 
@@ -186,7 +186,7 @@ TookIsWritten = (took_bytes inbox (there 3 0 ∷ Expunged 4 ∷ []) ≡ 46) × (
 
 -- a message with four texts of 65,535 bytes, the last of them shorter by so many
 abbrev pub long_message : ℕ → ℕ → Change
-long_message less uid = let text = numbers 0 65535 in Present (record (message uid 0) { date = text; from = text; to = text; subject = numbers 0 (65535 - less) })
+long_message less uid = let text = replicate 65535 97 in Present (record (message uid 0) { date = text; from = text; to = text; subject = replicate (65535 - less) 97 })
 
 -- 31 such messages, and one whose last text is shorter
 abbrev pub long_messages : ℕ → List Change
@@ -225,6 +225,10 @@ abbrev pub QueueIsFull : Type 0
 QueueIsFull = (allows (waiting 4095 4095) (Queue inbox 7 3 true ∷ []) ≡ true ∷ [])
     × (allows (waiting 4096 4096) (Queue inbox 7 3 true ∷ Answered 4096 ∷ []) ≡ false ∷ true ∷ [])
     × (allows (waiting 4096 4096 ▻ Answered 1) (Queue inbox 7 3 true ∷ []) ≡ true ∷ [])
+    × (queue_is_full (known (waiting 4095 4095)) ≡ false)
+    × (queue_is_full (known (waiting 4096 4096)) ≡ true)
+    × (no_number_is_left (known (waiting 1 4611686018427387902)) ≡ false)
+    × (no_number_is_left (known (waiting 1 4611686018427387903)) ≡ true)
     × (allows (waiting 1 4611686018427387902) (Queue inbox 7 3 true ∷ []) ≡ true ∷ [])
     × (allows (waiting 1 4611686018427387903) (Queue inbox 7 3 true ∷ []) ≡ false ∷ [])
 
@@ -240,7 +244,7 @@ IsNoBase r = IsCanonical r → ⊥
 abbrev pub some_record : CacheRecord
 some_record = record { birth = 5; resetting = false; mailboxes = (inbox, message 3 0 ∷ message 7 1 ∷ []) ∷ (work, []) ∷ []; last = 3; queue = item 1 inbox 7 2 true ∷ item 3 inbox 3 0 true ∷ [] }
 
--- nothing is asked of a record that is resetting: it can have mailboxes
+-- nothing more is asked of a record that is resetting: it can have mailboxes
 abbrev pub ResettingBase : Type 0
 ResettingBase = IsCanonical (record some_record { resetting = true })
 

@@ -1,6 +1,6 @@
 //! What holds of every legal history. Each law is the contract of a function that does nothing.
 
-ghost use Rattle.pc_cache_history.specs.Laws.{RecordAnswersAsHistory, RecordInPlaceOfHistory, RecordIsCanonical, StepIsOneEntryMore, RecordIsReadOff, NewCacheIsLegal, LimitsHold, MailboxesAreCached, MailboxesKeepTheirOrder, BaseIsListed, TookReplacesTheNamed, TakenIsShort, CountIsOfTheMailbox, KeptLeavesTheOthersOut, BeginEmptiesTheBase, ResettingIsEmpty, QueueIsUnanswered, NumbersRise, NumbersComeOnce, ViewIsOfBase, ViewWithoutItems, QueuedIsShown, ChangesAreCounted, EntriesLeaveTheRest, BaseIsOfItsUids, RisingListsAreByUid, AnsweredIsShown};
+ghost use Rattle.pc_cache_history.specs.Laws.{RecordAnswersAsHistory, RecordInPlaceOfHistory, RecordIsCanonical, StepIsOneEntryMore, RecordIsReadOff, NewCacheIsLegal, LimitsHold, MailboxesAreCached, MailboxesKeepTheirOrder, BaseIsListed, BaseIsOfItsUids, RisingListsAreByUid, TookReplacesTheNamed, TakenIsShort, ChangesAreCounted, CountIsOfTheMailbox, KeptLeavesTheOthersOut, BeginEmptiesTheBase, ResettingIsEmpty, EntriesLeaveTheRest, QueueIsUnanswered, NumbersRise, NumbersComeOnce, ViewIsOfBase, ViewWithoutItems, QueuedIsShown, AnsweredIsShown};
 
 /// The record of a history answers every question as the history does.
 pub fn record_answers_as_history()

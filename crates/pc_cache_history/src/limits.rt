@@ -9,7 +9,7 @@ pub const MOST_DESCRIPTORS: usize = 131_072;
 /// Changes that are taken at once.
 pub const MOST_TAKEN: usize = 32_768;
 
-/// Bytes that the changes taken at once are written in.
+/// Bytes in which a `Took` is written.
 pub const MOST_TAKEN_BYTES: usize = 8_388_608;
 
 /// Names of mailboxes that are kept.

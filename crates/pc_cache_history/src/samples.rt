@@ -1,6 +1,6 @@
 //! Small histories, with what their answers must be. Each law is the contract of a function that does nothing.
 
-ghost use Rattle.pc_cache_history.specs.Samples.{SyncedAtOnce, TwoTaken, FlagQueued, FlagAnswered, LastOneHolds, BegunAnew, UidsRise, GoneAndThere, LeftOut, EmptiedStays, EmptyBases, OnlyWhereSynced, TookIsTooLong, TookIsWritten, NothingTwice, NoSuchMessage, AnsweredOnce, QueueIsFull, SamplesAreLegal, ResettingBase, BehindBase, QueueIsTooLong, NoBases};
+ghost use Rattle.pc_cache_history.specs.Samples.{SyncedAtOnce, TwoTaken, FlagQueued, FlagAnswered, LastOneHolds, BegunAnew, UidsRise, GoneAndThere, LeftOut, EmptiedStays, EmptyBases, OnlyWhereSynced, TookIsWritten, TookIsTooLong, NothingTwice, NoSuchMessage, AnsweredOnce, QueueIsFull, SamplesAreLegal, ResettingBase, BehindBase, QueueIsTooLong, NoBases};
 
 /// A new cache of which everything is listed anew, without a `Begin`.
 pub fn synced_at_once()
