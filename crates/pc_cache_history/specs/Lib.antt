@@ -1,0 +1,11 @@
+pub mod Entry
+pub mod Record
+pub mod Effect
+pub mod Known
+pub mod View
+pub mod History
+pub mod Allowed
+pub mod Step
+pub mod Legal
+pub mod Laws
+pub mod Samples
