@@ -16,4 +16,3 @@ pub mod ReadsRecord
 pub mod GoodRecord
 pub mod RecordSize
 pub mod RecordLaws
-pub mod Written

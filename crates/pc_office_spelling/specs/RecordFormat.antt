@@ -56,7 +56,7 @@ board_format names count before =
 abbrev pub boards_format : List (List ℕ) → Format (List (List ℕ × List (List (List ℕ))))
 boards_format names = goes u16_kind (within 0 MOST_BOARDS) (λ count. items_from (board_format names) count [])
 
--- one of these users, once, and one of its mailboxes
+-- one of these users, once, and the name of a mailbox
 abbrev pub target_format : List (List ℕ) → ℕ → List Target → Format Target
 target_format users count before =
     goes name_kind (λ user. is_among user users && is_new (users_of before) user) (λ user. goes name_kind any (λ mailbox. ends (record { user = user; mailbox = mailbox })))

@@ -3,7 +3,7 @@ use Rattle.std.specs.Prelude.{◌≡◌, ℕ, List, [], ◌∷◌, ◌++◌, cod
 use Rattle.pc_office_history.specs.Record.{OfficeRecord}
 use Rattle.pc_office_spelling.specs.RecordSpelling.{spelled_record}
 
--- two users, an address besides their own, a board with a message, and of two mails one that still waits for both
+-- two users, an address besides their own, a board with a message; 258 mails were accepted, and one still waits for both
 abbrev pub small_record : OfficeRecord
 small_record = record {
   users = (codes "ann", 1) ∷ (codes "bob", 0) ∷ [];

@@ -7,7 +7,6 @@ mod entry_writing;
 pub mod laws;
 mod message_reading;
 pub mod record_laws;
-mod record_writing;
 pub mod samples;
 #[cfg(test)]
 mod tests;
@@ -16,4 +15,3 @@ pub use entry_fitting::fits;
 pub use entry_reading::read_entry;
 pub use entry_writing::write_entry;
 pub use message_reading::read_message;
-pub use record_writing::{write_address, write_board, write_kept, write_user};

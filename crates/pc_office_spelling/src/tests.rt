@@ -1,7 +1,7 @@
 use super::*;
 use pc_base::{Bytes, Lines, Name, Names, ReadFault};
 use pc_message::Message;
-use pc_office_history::{KeptMail, OfficeEntry, Target, Targets};
+use pc_office_history::OfficeEntry;
 use std::alloc::Global;
 use std::test::Fail;
 
@@ -169,37 +169,5 @@ fn names_that_do_not_fit(rt: HostRuntime) -> Result<(), Fail> {
         };
         assert_eq!(rt; fits(&OfficeEntry::Accept { names, message }), want);
     }
-    Ok(())
-}
-
-/// Writes a user, an address, a board of no messages, and a mail of no lines for a user.
-fn write_small(alloc: Global, user: Name, mailbox: Name, out: &mut Bytes) -> Result<(), Fail> {
-    let target = Target { user, mailbox };
-    let mut targets = Targets::new(alloc);
-    targets.push(target)?;
-    let Ok(message) = Message::of(Lines::new(alloc)) else {
-        return Err("a message")?;
-    };
-    write_user(out, &user, 258)?;
-    write_address(out, &user, &target)?;
-    write_board(out, &mailbox, &[])?;
-    let mail = KeptMail {
-        number: 259,
-        targets,
-        message,
-    };
-    write_kept(out, &mail)?;
-    Ok(())
-}
-
-#[test]
-fn parts_of_records_are_written(rt: HostRuntime) -> Result<(), Fail> {
-    let user = Name::read(b"ann").ok_or("a name")?;
-    let mailbox = Name::read(b"inbox").ok_or("a name")?;
-    let mut out = Bytes::new(rt.alloc());
-    write_small(rt.alloc(), user, mailbox, &mut out)?;
-    let want: &[u8] =
-        b"\x03ann\x00\x00\x00\x00\x00\x00\x01\x02\x03ann\x03ann\x05inbox\x05inbox\x00\x00\x00\x00\x00\x00\x00\x00\x00\x00\x01\x03\x00\x01\x03ann\x05inbox\x00\x00\x00\x00";
-    assert_eq!(rt; out.as_slice(), want);
     Ok(())
 }
