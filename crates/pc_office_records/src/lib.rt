@@ -1,0 +1,7 @@
+//! The record of what the office holds: written and read.
+#![tactic(auto)]
+
+mod loading;
+mod saving;
+
+pub use saving::save;
