@@ -106,6 +106,13 @@ impl Boards {
         &self.names
     }
 
+    /// The boards with their messages, in order.
+    pub fn table(&self) -> &IndexMap<Name, Messages>
+        ensures { result.now.entries ≡ self.now }
+    {
+        &self.table
+    }
+
     /// How many there are.
     pub fn count(&self) -> usize
         ensures { result ≡ length self.now }

@@ -84,6 +84,13 @@ impl Users {
         &self.names
     }
 
+    /// The users with their standings, in order.
+    pub fn table(&self) -> &IndexMap<Name, Standing>
+        ensures { result.now.entries ≡ self.now }
+    {
+        &self.table
+    }
+
     /// How many there are.
     pub fn count(&self) -> usize
         ensures { result ≡ length self.now }

@@ -1,0 +1,4 @@
+pub mod Written
+pub mod ReadItems
+pub mod ReadTables
+pub mod ReadRecord

@@ -1,0 +1,8 @@
+//! The record of what the office holds: written and read.
+#![tactic(auto)]
+
+mod loading;
+mod saving;
+
+pub use loading::load;
+pub use saving::save;
