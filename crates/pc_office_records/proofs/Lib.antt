@@ -1,0 +1,4 @@
+pub mod Rows
+pub mod Sizes
+pub mod ReadItems
+pub mod Tallies

@@ -1,0 +1,3 @@
+//! The record of the office, read.
+
+mod kept;

@@ -1,0 +1,338 @@
+//! The mails of a record that still wait for somebody, read.
+
+ghost use Rattle.std.specs.Prelude.{◌≡◌, ◌*◌, ◌≤◌, ◌<◌, ◌&&◌, ◌++◌, ◌∷◌, [], Some, length, map, List, IfOk, OnOk, MatchResult};
+ghost use Rattle.std.specs.List.{list_all, AllByRecursion};
+ghost use Rattle.std.specs.Map.{keys_of, lookup};
+ghost use Rattle.pc_message.specs.Message.{size_of};
+ghost use Rattle.pc_history.specs.Table.{same, is_among};
+ghost use Rattle.pc_history.specs.Legal.{AreDistinct};
+ghost use Rattle.pc_spelling.specs.Fields.{name_kind, u16_kind, u32_kind, u64_kind, FieldReads};
+ghost use Rattle.pc_spelling.specs.Format.{Reads};
+ghost use Rattle.pc_spelling.specs.RecordFormat.{is_new};
+ghost use Rattle.pc_office_history.specs.declared.kept.KeptMail.{KeptMail};
+ghost use Rattle.pc_office_spelling.specs.Spaces.{space_beside, users_of, greatest};
+ghost use Rattle.pc_office_spelling.specs.RecordFormat.{items_from, target_format, kept_format, kept_list_format};
+ghost use Rattle.pc_office_holdings.specs.declared.users.Standing.{Standing};
+ghost use Rattle.pc_office_holdings.specs.Held.{noted_of, IsCounted};
+ghost use Rattle.pc_office_records.specs.ReadKept.{rows_in, row_in, space_in, upto_in, suits_in, follow_in, is_light_in, may_in, open_in, is_open_row, count_open, is_next_number, is_many, AreOpen, AreTallied, IsLast, IsUncounted};
+
+use pc_base::{Memory, Name};
+use pc_history::LAST_MAIL;
+use pc_message::Message;
+use pc_office_history::{KeptMail, MOST_USERS, MOST_WAITING, MOST_WAITING_WEIGHT, Target, Targets};
+use pc_office_holdings::{Standing, Users};
+use pc_office_spelling::read_message;
+use pc_spelling::{Cursor, Halt};
+use std::alloc::Global;
+
+/// What is counted of a user, and whether a mail is for it.
+#[derive(Clone, Copy)]
+struct Row {
+    standing: Standing,
+    taken: bool,
+}
+
+impl Row {
+    /// How many mails more may wait for the user, once a mail of this size does if it is for it.
+    fn space(&self, size: u32) -> u64
+        ensures space { result ≡ space_in size self.now }
+        ensures most { result ≤ 1024 }
+    {
+        let Standing { mails, weight, .. } = self.standing;
+        if self.taken {
+            space_beside(mails.saturating_add(1), weight.saturating_add(size as u64 + 256))
+        } else {
+            space_beside(mails, weight)
+        }
+    }
+
+    /// Whether a mail of this number may wait for the user.
+    fn is_open(&self, number: u64) -> bool
+        ensures { result ≡ is_open_row number self.now }
+    {
+        self.standing.noted < number && self.space(0) > 0
+    }
+
+    /// Whether a mail of this size is light enough to wait for the user, if it is for it.
+    fn is_light(&self, size: u32) -> bool
+        ensures { result ≡ is_light_in size self.now }
+    {
+        !self.taken || self.standing.weight.saturating_add(size as u64 + 256) <= MOST_WAITING_WEIGHT as u64
+    }
+}
+
+/// How many mails more may wait for a user for whom so many do, of this weight.
+fn space_beside(mails: u64, weight: u64) -> u64
+    ensures space { result ≡ space_beside mails weight }
+    ensures most { result ≤ 1024 }
+{
+    let more = (MOST_WAITING as u64).saturating_sub(mails);
+    more.min((MOST_WAITING_WEIGHT as u64).saturating_sub(weight) / 256)
+}
+
+/// What is counted of each user, and whether it is among the targets.
+fn rows_of(alloc: Global, users: &Users, targets: &Targets) -> Result<Vec<Row>, Memory>
+    requires { AreDistinct (keys_of users.now) }
+    ensures { IfOk result (λ rows. rows.items ≡ rows_in targets.now users.now) }
+{
+    let mut rows = Vec::new(alloc);
+    for name in users.names().as_slice() {
+        if let Some(standing) = users.get(name) {
+            let taken = is_taken(name, targets);
+            rows.push(Row { standing, taken })?;
+        }
+    }
+    Ok(rows)
+}
+
+/// Whether a user is among the targets.
+fn is_taken(user: &Name, targets: &Targets) -> bool
+    ensures { result ≡ is_among user.now (users_of targets.now) }
+{
+    targets.of(user).is_some()
+}
+
+/// How many mails of numbers up to this one may wait, one for each of its targets.
+fn space_upto(rows: &[Row], size: u32, number: u64) -> u64
+    requires { length rows.now ≤ MOST_USERS }
+    ensures space { result ≡ upto_in rows.now size number }
+    ensures most { result ≤ 32768 }
+{
+    let mut sum: u64 = 0;
+    for row in rows {
+        if row.standing.noted < number {
+            sum += row.space(size);
+        }
+    }
+    sum
+}
+
+/// Whether so many mails can come behind, where so much of the space is taken by others.
+fn can_follow(rows: &[Row], size: u32, accepted: u64, count: u32, taken: u16) -> bool
+    requires few { length rows.now ≤ MOST_USERS }
+    requires last { accepted ≤ LAST_MAIL }
+    ensures { result ≡ follow_in rows.now size accepted count taken }
+{
+    if count == 0 {
+        return true;
+    }
+    if count as u64 + taken as u64 > space_upto(rows, size, accepted) {
+        return false;
+    }
+    suit_all(rows, size, accepted, count, taken)
+}
+
+fn suit_all(rows: &[Row], size: u32, accepted: u64, count: u32, taken: u16) -> bool
+    requires few { length rows.now ≤ MOST_USERS }
+    requires last { accepted ≤ LAST_MAIL }
+    ensures { result ≡ list_all (suits_in rows.now size accepted count taken) rows.now }
+{
+    for row in rows {
+        if !suits(rows, size, accepted, count, taken, row) {
+            return false;
+        }
+    }
+    true
+}
+
+/// Whether there is space up to what is noted of a user for those of the mails that have such
+/// numbers.
+fn suits(rows: &[Row], size: u32, accepted: u64, count: u32, taken: u16, row: &Row) -> bool
+    requires few { length rows.now ≤ MOST_USERS }
+    requires last { accepted ≤ LAST_MAIL }
+    ensures { result ≡ suits_in rows.now size accepted count taken row.now }
+{
+    let noted = row.standing.noted;
+    let behind = noted.saturating_add(count as u64);
+    if behind <= accepted {
+        return true;
+    }
+    behind.saturating_add(taken as u64) <= accepted + space_upto(rows, size, noted)
+}
+
+/// Whether a mail of this size may wait, and so many can come behind it.
+fn may_wait(rows: &[Row], accepted: u64, count: u32, size: u32) -> bool
+    requires few { length rows.now ≤ MOST_USERS }
+    requires last { accepted ≤ LAST_MAIL }
+    ensures { result ≡ may_in rows.now accepted count size }
+{
+    are_light(rows, size) && can_follow(rows, size, accepted, count, 0)
+}
+
+fn are_light(rows: &[Row], size: u32) -> bool
+    ensures { result ≡ list_all (is_light_in size) rows.now }
+{
+    for row in rows {
+        if !row.is_light(size) {
+            return false;
+        }
+    }
+    true
+}
+
+/// The greatest size with which a mail may wait. The greater the size, the less space is left:
+/// so it is found by halves.
+fn most_size(rows: &[Row], accepted: u64, count: u32) -> u32
+    requires few { length rows.now ≤ MOST_USERS }
+    requires last { accepted ≤ LAST_MAIL }
+    ensures { result ≡ greatest (may_in rows.now accepted count) 65536 }
+{
+    let mut low: u32 = 0;
+    let mut high: u32 = 65_536;
+    if may_wait(rows, accepted, count, high) {
+        return high;
+    }
+    while low < high {
+        let middle = low + (high - low).div_ceil(2);
+        if may_wait(rows, accepted, count, middle) {
+            low = middle;
+        } else {
+            high = middle - 1;
+        }
+    }
+    low
+}
+
+/// For how many users a mail of this number may wait.
+fn count_open(rows: &[Row], number: u64) -> usize
+    ensures { result ≡ count_open rows.now number }
+{
+    let mut count: usize = 0;
+    for row in rows {
+        if row.is_open(number) {
+            count += 1;
+        }
+    }
+    count
+}
+
+/// Whether a mail of this number may wait for a user.
+fn is_open(users: &Users, user: &Name, number: u64) -> bool
+    requires { AreDistinct (keys_of users.now) }
+    ensures { result ≡ is_among user.now (open_in users.now number) }
+{
+    match users.get(user) {
+        Some(standing) => {
+            standing.noted < number && space_beside(standing.mails, standing.weight) > 0
+        }
+        None => false,
+    }
+}
+
+/// The number of a mail, past the last one, with one left for each of so many mails behind it.
+fn read_number(
+    cursor: &mut Cursor,
+    rows: &[Row],
+    last: u64,
+    accepted: u64,
+    left: u32,
+) -> Result<u64, Halt>
+    requires { accepted ≤ LAST_MAIL }
+    ensures { FieldReads u64_kind (is_next_number last rows.now accepted left) cursor.old cursor.new result }
+{
+    let mut ahead = cursor.ahead();
+    let number = ahead.u64(0, accepted)?;
+    if !is_next_number(rows, last, accepted, left, number) {
+        return Err(Halt::NoField);
+    }
+    *cursor = ahead;
+    Ok(number)
+}
+
+fn is_next_number(rows: &[Row], last: u64, accepted: u64, left: u32, number: u64) -> bool
+    requires { accepted ≤ LAST_MAIL }
+    ensures { result ≡ is_next_number last rows.now accepted left number }
+{
+    last < number
+        && number.saturating_add(left as u64) <= accepted
+        && count_open(rows, number) > 0
+}
+
+/// For how many targets a mail of this number waits.
+fn read_many(
+    cursor: &mut Cursor,
+    rows: &[Row],
+    number: u64,
+    accepted: u64,
+    left: u32,
+) -> Result<u16, Halt>
+    requires few { length rows.now ≤ MOST_USERS }
+    requires last { accepted ≤ LAST_MAIL }
+    ensures { FieldReads u16_kind (is_many rows.now number accepted left) cursor.old cursor.new result }
+{
+    let mut ahead = cursor.ahead();
+    let many = ahead.u16(1, u16::MAX)?;
+    if !is_many(rows, number, accepted, left, many) {
+        return Err(Halt::NoField);
+    }
+    *cursor = ahead;
+    Ok(many)
+}
+
+fn is_many(rows: &[Row], number: u64, accepted: u64, left: u32, many: u16) -> bool
+    requires few { length rows.now ≤ MOST_USERS }
+    requires last { accepted ≤ LAST_MAIL }
+    ensures { result ≡ is_many rows.now number accepted left many }
+{
+    many > 0
+        && many as usize <= count_open(rows, number)
+        && can_follow(rows, 0, accepted, left, many)
+}
+
+/// So many targets, each a user for whom a mail of this number may wait.
+fn read_targets(
+    alloc: Global,
+    cursor: &mut Cursor,
+    users: &Users,
+    number: u64,
+    many: u16,
+) -> Result<Targets, Halt>
+    requires { AreDistinct (keys_of users.now) }
+    ensures read { Reads (items_from (target_format (open_in users.now number)) many []) cursor.old cursor.new result }
+    ensures open { IfOk result (AreOpen users.now number) }
+{
+    let mut targets = Targets::new(alloc);
+    for _taken in 0..many {
+        let target = read_target(cursor, users, number, &targets)?;
+        targets.push(target)?;
+    }
+    Ok(targets)
+}
+
+fn read_target(
+    cursor: &mut Cursor,
+    users: &Users,
+    number: u64,
+    targets: &Targets,
+) -> Result<Target, Halt>
+    requires { AreDistinct (keys_of users.now) }
+    ensures read { Reads (target_format (open_in users.now number) 0 targets.now) cursor.old cursor.new result }
+    ensures open { IfOk result (λ target. AreOpen users.now number (target ∷ [])) }
+{
+    let user = read_open_user(cursor, users, number, targets)?;
+    let mailbox = cursor.name()?;
+    Ok(Target { user, mailbox })
+}
+
+/// A user for whom a mail of this number may wait, and that isn't among the targets yet.
+fn read_open_user<'a>(
+    cursor: &mut Cursor<'a>,
+    users: &Users,
+    number: u64,
+    targets: &Targets,
+) -> Result<Name, Halt>
+    requires { AreDistinct (keys_of users.now) }
+    ensures read { FieldReads name_kind (λ user. is_among user (open_in users.now number) && is_new (users_of targets.now) user) cursor.old cursor.new result }
+    ensures open { IfOk result (λ user. AreOpen users.now number (record { user = user; mailbox = [] } ∷ [])) }
+{
+    let mut ahead = cursor.ahead();
+    let user = ahead.name()?;
+    if !is_open(users, &user, number) {
+        return Err(Halt::NoField);
+    }
+    if is_taken(&user, targets) {
+        return Err(Halt::NoField);
+    }
+    *cursor = ahead;
+    Ok(user)
+}
