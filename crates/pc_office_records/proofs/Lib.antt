@@ -2,3 +2,4 @@ pub mod Rows
 pub mod Sizes
 pub mod ReadItems
 pub mod Tallies
+pub mod ReadMails

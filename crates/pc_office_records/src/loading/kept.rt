@@ -1,6 +1,6 @@
 //! The mails of a record that still wait for somebody, read.
 
-ghost use Rattle.std.specs.Prelude.{◌≡◌, ◌*◌, ◌≤◌, ◌<◌, ◌&&◌, ◌++◌, ◌∷◌, [], Some, length, map, List, IfOk, OnOk, MatchResult};
+ghost use Rattle.std.specs.Prelude.{◌≡◌, ◌*◌, ◌≤◌, ◌<◌, ◌&&◌, ◌++◌, ◌∷◌, [], Some, length, map, List, IfOk, OnOk, MatchResult, Ok, Err};
 ghost use Rattle.std.specs.List.{list_all, AllByRecursion};
 ghost use Rattle.std.specs.Map.{keys_of, lookup};
 ghost use Rattle.pc_message.specs.Message.{size_of};
@@ -8,7 +8,7 @@ ghost use Rattle.pc_history.specs.Table.{same, is_among};
 ghost use Rattle.pc_history.specs.Legal.{AreDistinct};
 ghost use Rattle.pc_spelling.specs.Fields.{name_kind, u16_kind, u32_kind, u64_kind, FieldReads};
 ghost use Rattle.pc_spelling.specs.Format.{Reads};
-ghost use Rattle.pc_spelling.specs.RecordFormat.{is_new};
+ghost use Rattle.pc_spelling.specs.RecordFormat.{is_new, message_within};
 ghost use Rattle.pc_office_history.specs.declared.kept.KeptMail.{KeptMail};
 ghost use Rattle.pc_office_spelling.specs.Spaces.{space_beside, users_of, greatest};
 ghost use Rattle.pc_office_spelling.specs.RecordFormat.{items_from, target_format, kept_format, kept_list_format};
@@ -24,6 +24,135 @@ use pc_office_holdings::{Standing, Users};
 use pc_office_spelling::read_message;
 use pc_spelling::{Cursor, Halt};
 use std::alloc::Global;
+
+/// The mails that still wait for users of whom none is counted yet. Each mail is counted for those
+/// for whom it waits. After `Err` the users aren't used again.
+pub(crate) fn read_kept(
+    alloc: Global,
+    cursor: &mut Cursor,
+    users: &mut Users,
+    accepted: u64,
+) -> Result<Vec<KeptMail>, Halt>
+    requires uncounted { AllByRecursion IsUncounted users.old }
+    requires distinct { AreDistinct (keys_of users.old) }
+    requires few { length users.old ≤ MOST_USERS }
+    requires last { accepted ≤ LAST_MAIL }
+    ensures read { MatchResult result
+        (λ kept. Reads (kept_list_format (map noted_of users.old) accepted) cursor.old cursor.new (Ok kept.items))
+        (λ halt. Reads (kept_list_format (map noted_of users.old) accepted) cursor.old cursor.new (Err halt)) }
+    ensures same { IfOk result (λ kept. map noted_of users.new ≡ map noted_of users.old) }
+    ensures counted { IfOk result (λ kept. AllByRecursion (IsCounted kept.items) users.new) }
+{
+    let count = read_count(alloc, cursor, users, accepted)?;
+    read_mails(alloc, cursor, users, accepted, count)
+}
+
+/// How many mails wait.
+fn read_count(
+    alloc: Global,
+    cursor: &mut Cursor,
+    users: &Users,
+    accepted: u64,
+) -> Result<u32, Halt>
+    requires distinct { AreDistinct (keys_of users.now) }
+    requires few { length users.now ≤ MOST_USERS }
+    requires last { accepted ≤ LAST_MAIL }
+    ensures { FieldReads u32_kind (λ count. follow_in (rows_in [] users.now) 0 accepted count 0) cursor.old cursor.new result }
+{
+    let rows = rows_of(alloc, users, &Targets::new(alloc))?;
+    let mut ahead = cursor.ahead();
+    let count = ahead.u32(0, u32::MAX)?;
+    if !can_follow(&rows, 0, accepted, count, 0) {
+        return Err(Halt::NoField);
+    }
+    *cursor = ahead;
+    Ok(count)
+}
+
+fn read_mails(
+    alloc: Global,
+    cursor: &mut Cursor,
+    users: &mut Users,
+    accepted: u64,
+    count: u32,
+) -> Result<Vec<KeptMail>, Halt>
+    requires uncounted { AllByRecursion IsUncounted users.old }
+    requires distinct { AreDistinct (keys_of users.old) }
+    requires few { length users.old ≤ MOST_USERS }
+    requires last { accepted ≤ LAST_MAIL }
+    ensures read { MatchResult result
+        (λ kept. Reads (items_from (kept_format (map noted_of users.old) accepted) count []) cursor.old cursor.new (Ok kept.items))
+        (λ halt. Reads (items_from (kept_format (map noted_of users.old) accepted) count []) cursor.old cursor.new (Err halt)) }
+    ensures same { IfOk result (λ kept. map noted_of users.new ≡ map noted_of users.old) }
+    ensures counted { IfOk result (λ kept. AllByRecursion (IsCounted kept.items) users.new) }
+{
+    let mut kept = Vec::new(alloc);
+    let mut last: u64 = 0;
+    for taken in 0..count {
+        let left = count - (taken + 1);
+        let mail = read_mail(alloc, cursor, users, accepted, left, last)?;
+        last = mail.number;
+        users.await_mail(&mail.targets, mail.message.weight());
+        put(&mut kept, mail)?;
+    }
+    Ok(kept)
+}
+
+fn put(kept: &mut Vec<KeptMail>, mail: KeptMail) -> Result<(), Memory>
+    ensures { OnOk result (kept.new.items ≡ kept.old.items ++ mail ∷ []) }
+{
+    kept.push(mail)?;
+    Ok(())
+}
+
+/// A mail of a number past the last one, with so many mails behind it.
+fn read_mail(
+    alloc: Global,
+    cursor: &mut Cursor,
+    users: &Users,
+    accepted: u64,
+    left: u32,
+    last: u64,
+) -> Result<KeptMail, Halt>
+    requires distinct { AreDistinct (keys_of users.now) }
+    requires few { length users.now ≤ MOST_USERS }
+    requires last { accepted ≤ LAST_MAIL }
+    ensures read { (before : List KeptMail) → AreTallied before users.now → IsLast before last → Reads (kept_format (map noted_of users.now) accepted left before) cursor.old cursor.new result }
+    ensures past { IfOk result (λ mail. last < mail.number) }
+    ensures open { IfOk result (λ mail. AreOpen users.now mail.number mail.targets) }
+    ensures size { IfOk result (λ mail. size_of mail.message ≤ 65536) }
+{
+    let rows = rows_of(alloc, users, &Targets::new(alloc))?;
+    let number = read_number(cursor, &rows, last, accepted, left)?;
+    let many = read_many(cursor, &rows, number, accepted, left)?;
+    let targets = read_targets(alloc, cursor, users, number, many)?;
+    let message = read_waiting(alloc, cursor, users, &targets, accepted, left)?;
+    Ok(KeptMail {
+        number,
+        targets,
+        message,
+    })
+}
+
+/// A message that may wait for these targets, with so many mails behind it.
+fn read_waiting(
+    alloc: Global,
+    cursor: &mut Cursor,
+    users: &Users,
+    targets: &Targets,
+    accepted: u64,
+    left: u32,
+) -> Result<Message, Halt>
+    requires distinct { AreDistinct (keys_of users.now) }
+    requires few { length users.now ≤ MOST_USERS }
+    requires last { accepted ≤ LAST_MAIL }
+    ensures read { Reads (message_within (greatest (may_in (rows_in targets.now users.now) accepted left) 65536)) cursor.old cursor.new result }
+    ensures size { IfOk result (λ message. size_of message ≤ 65536) }
+{
+    let rows = rows_of(alloc, users, targets)?;
+    let room = most_size(&rows, accepted, left);
+    read_message(alloc, cursor, room)
+}
 
 /// What is counted of a user, and whether a mail is for it.
 #[derive(Clone, Copy)]
@@ -175,7 +304,8 @@ fn are_light(rows: &[Row], size: u32) -> bool
 fn most_size(rows: &[Row], accepted: u64, count: u32) -> u32
     requires few { length rows.now ≤ MOST_USERS }
     requires last { accepted ≤ LAST_MAIL }
-    ensures { result ≡ greatest (may_in rows.now accepted count) 65536 }
+    ensures greatest { result ≡ greatest (may_in rows.now accepted count) 65536 }
+    ensures most { result ≤ 65536 }
 {
     let mut low: u32 = 0;
     let mut high: u32 = 65_536;

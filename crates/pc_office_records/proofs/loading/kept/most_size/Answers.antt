@@ -4,8 +4,8 @@ use Rattle.pc_office_records.specs.ReadKept.{may_in}
 use Rattle.pc_office_records.proofs.Sizes.{found-first, found-above, found-below}
 use Rattle.pc_office_records.proofs.loading.kept.most_size.Goals as goal
 
-pub returns-then-may_wait : goal.returns-then-may_wait
-returns-then-may_wait c = found-first c.args.rows.now c.args.accepted c.args.count (sym c.may_wait.ensures ∙ c.if-may_wait.true)
+pub returns-then-may_wait-clause-greatest : goal.returns-then-may_wait-clause-greatest
+returns-then-may_wait-clause-greatest c = found-first c.args.rows.now c.args.accepted c.args.count (sym c.may_wait.ensures ∙ c.if-may_wait.true)
 
 pub loop-low-init : goal.loop-low-init
 loop-low-init c = record {
