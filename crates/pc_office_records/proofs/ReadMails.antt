@@ -1,5 +1,5 @@
 -- Reading mails that wait, one after the other.
-use Rattle.std.proofs.Common.{◌≡◌, ℕ, suc, ◌+◌, ◌<◌, ◌≤◌, Bool, true, ◌&&◌, nat_lt, nat_le, List, [], ◌∷◌, length, map, Result, Ok, Err, refl, sym, ap, subst, ◌∙◌, arith, MatchResult}
+use Rattle.std.proofs.Common.{◌≡◌, ℕ, suc, ◌+◌, ◌<◌, Bool, ◌&&◌, nat_lt, nat_le, List, [], ◌∷◌, length, map, Result, Ok, Err, refl, sym, ap, subst, ◌∙◌, MatchResult}
 use Rattle.std.specs.List.{list_all, AllByRecursion as Every}
 use Rattle.std.specs.Map.{keys_of}
 use Rattle.std.specs.Result.{IsErr, IsErrAnd}

@@ -1,5 +1,5 @@
 -- Users and their rows.
-use Rattle.std.proofs.Common.{◌≡◌, ℕ, zero, suc, ◌+◌, ◌<◌, ◌≤◌, Bool, true, false, cond, ◌&&◌, ◌||◌, nat_lt, List, [], ◌∷◌, ◌++◌, append_assoc, length, filter, drop, slice_index_or, map, Option, None, Some, is_some, refl, sym, ap, subst, ◌∙◌, arith, true≢false}
+use Rattle.std.proofs.Common.{◌≡◌, ℕ, zero, suc, ◌+◌, ◌<◌, ◌≤◌, Bool, true, false, cond, ◌&&◌, ◌||◌, nat_lt, List, [], ◌∷◌, ◌++◌, append_assoc, length, filter, drop, slice_index_or, Option, None, Some, is_some, refl, sym, ap, subst, ◌∙◌, arith, true≢false}
 use Rattle.std.specs.List.{AllByRecursion as Every}
 use Rattle.std.specs.Option.{option_map_or}
 use Rattle.std.specs.Map.{lookup, keys_of}
@@ -12,7 +12,7 @@ use Rattle.pc_office_history.specs.Record.{target_of}
 use Rattle.pc_office_spelling.specs.Spaces.{space_beside, users_of}
 use Rattle.pc_office_holdings.specs.declared.users.Standing.{Standing}
 use Rattle.pc_office_records.specs.declared.loading.kept.Row.{Row}
-use Rattle.pc_office_records.specs.ReadKept.{Table, row_in, rows_in, is_open_in, open_in}
+use Rattle.pc_office_records.specs.ReadKept.{Table, rows_in, is_open_in, open_in}
 
 pub target-among : (user : List ℕ) (targets : List Target) → is_some (target_of user targets) ≡ is_among user (users_of targets)
 target-among user [] = refl

@@ -1,10 +1,9 @@
 -- The greater a mail is, the less space it leaves: the greatest size with which it may wait is found by halves.
-use Rattle.std.proofs.Common.{◌≡◌, ℕ, zero, suc, ◌+◌, ◌-◌, ◌<◌, ◌≤◌, Bool, true, false, cond, ◌&&◌, ◌||◌, ◌==◌, not, nat_lt, nat_le, List, [], ◌∷◌, refl, sym, ap, subst, ◌∙◌, arith, true≢false}
+use Rattle.std.proofs.Common.{◌≡◌, ℕ, zero, suc, ◌+◌, ◌-◌, ◌<◌, ◌≤◌, Bool, true, false, cond, ◌&&◌, ◌||◌, ◌==◌, not, nat_lt, nat_le, List, refl, sym, ◌∙◌, arith, true≢false}
 use Rattle.std.specs.List.{list_all}
 use Rattle.std.proofs.lemmas.Bool.{leb-true, leb-false, le-leb, and_parts, and_from}
-use Rattle.pc_history.specs.Table.{total}
 use Rattle.pc_history.proofs.Numbers.{total-le, list_all-weaker}
-use Rattle.pc_office_history.specs.declared.limits.TheConstants.{MOST_WAITING, MOST_WAITING_WEIGHT}
+use Rattle.pc_office_history.specs.declared.limits.TheConstants.{MOST_WAITING_WEIGHT}
 use Rattle.pc_office_spelling.specs.Spaces.{space_beside, greatest}
 use Rattle.pc_office_spelling.proofs.Spaces.{greatest-most, greatest-least}
 use Rattle.pc_office_records.specs.declared.loading.kept.Row.{Row}

@@ -1,16 +1,16 @@
 -- What is counted beside the users is what the format asks of the mails before.
-use Rattle.std.proofs.Common.{◌≡◌, ℕ, zero, suc, ◌+◌, ◌%◌, ◌^◌, ◌<◌, ◌≤◌, Bool, true, false, cond, not, ◌&&◌, ◌||◌, ◌==◌, nat_lt, nat_le, List, [], ◌∷◌, ◌++◌, length, filter, map, Option, None, Some, is_some, MatchOption, refl, sym, ap, subst, ◌∙◌, arith, true≢false}
+use Rattle.std.proofs.Common.{◌≡◌, ℕ, suc, ◌+◌, ◌<◌, ◌≤◌, Bool, true, false, cond, not, ◌&&◌, ◌||◌, ◌==◌, nat_lt, nat_le, List, [], ◌∷◌, ◌++◌, length, filter, map, is_some, refl, sym, ap, subst, ◌∙◌, arith, true≢false}
 use Rattle.std.specs.List.{list_all, AllByRecursion as Every}
-use Rattle.std.specs.Map.{lookup, keys_of}
-use Rattle.std.proofs.lemmas.Bool.{lt-ltb, ltb-true, ltb-false, and_parts, and_from, or_parts}
+use Rattle.std.specs.Map.{keys_of}
+use Rattle.std.proofs.lemmas.Bool.{lt-ltb, ltb-true, ltb-false, and_parts, and_from}
 use Rattle.pc_message.specs.Message.{size_of, weight_of}
-use Rattle.pc_history.specs.Table.{same, is_among, total}
+use Rattle.pc_history.specs.Table.{same, is_among}
 use Rattle.pc_history.specs.Legal.{AreDistinct}
 use Rattle.pc_history.proofs.Tables.{same-true, same-refl}
 use Rattle.std.proofs.lemmas.List.Folds.{list_all-append}
 use Rattle.pc_history.proofs.Numbers.{list_all-among}
 use Rattle.pc_history.proofs.Uids.{Every-weaker}
-use Rattle.pc_office_history.specs.declared.limits.TheConstants.{MOST_WAITING, MOST_WAITING_WEIGHT}
+use Rattle.pc_office_history.specs.declared.limits.TheConstants.{MOST_WAITING_WEIGHT}
 use Rattle.pc_office_history.specs.declared.kept.Target.{Target}
 use Rattle.pc_office_history.specs.declared.kept.KeptMail.{KeptMail}
 use Rattle.pc_office_history.specs.Record.{target_of, mails_for}

@@ -48,12 +48,7 @@ pub(crate) fn read_kept(
 }
 
 /// How many mails wait.
-fn read_count(
-    alloc: Global,
-    cursor: &mut Cursor,
-    users: &Users,
-    accepted: u64,
-) -> Result<u32, Halt>
+fn read_count(alloc: Global, cursor: &mut Cursor, users: &Users, accepted: u64) -> Result<u32, Halt>
     requires distinct { AreDistinct (keys_of users.now) }
     requires few { length users.now ≤ MOST_USERS }
     requires last { accepted ≤ LAST_MAIL }
@@ -169,7 +164,10 @@ impl Row {
     {
         let Standing { mails, weight, .. } = self.standing;
         if self.taken {
-            space_beside(mails.saturating_add(1), weight.saturating_add(size as u64 + 256))
+            space_beside(
+                mails.saturating_add(1),
+                weight.saturating_add(size as u64 + 256),
+            )
         } else {
             space_beside(mails, weight)
         }
@@ -186,7 +184,8 @@ impl Row {
     fn is_light(&self, size: u32) -> bool
         ensures { result ≡ is_light_in size self.now }
     {
-        !self.taken || self.standing.weight.saturating_add(size as u64 + 256) <= MOST_WAITING_WEIGHT as u64
+        !self.taken
+            || self.standing.weight.saturating_add(size as u64 + 256) <= MOST_WAITING_WEIGHT as u64
     }
 }
 
@@ -373,9 +372,7 @@ fn is_next_number(rows: &[Row], last: u64, accepted: u64, left: u32, number: u64
     requires { accepted ≤ LAST_MAIL }
     ensures { result ≡ is_next_number last rows.now accepted left number }
 {
-    last < number
-        && number.saturating_add(left as u64) <= accepted
-        && count_open(rows, number) > 0
+    last < number && number.saturating_add(left as u64) <= accepted && count_open(rows, number) > 0
 }
 
 /// For how many targets a mail of this number waits.

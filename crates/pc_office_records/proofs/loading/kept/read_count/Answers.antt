@@ -1,4 +1,4 @@
-use Rattle.std.proofs.Common.{◌≡◌, List, ℕ, Bool, [], Ok, sym, ap, subst, ◌∙◌}
+use Rattle.std.proofs.Common.{◌≡◌, List, ℕ, [], Ok, sym, ap, subst, ◌∙◌}
 use Rattle.pc_spelling.specs.Fields.{u32_kind, within, FieldReads}
 use Rattle.pc_spelling.proofs.TestedFields.{field_fails}
 use Rattle.pc_office_history.specs.declared.kept.Target.{Target}

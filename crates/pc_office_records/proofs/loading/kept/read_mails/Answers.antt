@@ -1,4 +1,4 @@
-use Rattle.std.proofs.Common.{◌≡◌, ◌+◌, ◌-◌, List, ℕ, [], map, Ok, Err, refl, subst, ◌∙◌, arith}
+use Rattle.std.proofs.Common.{◌+◌, ◌-◌, List, ℕ, [], map, Ok, Err, refl, subst, ◌∙◌, arith}
 use Rattle.pc_message.specs.Message.{weight_of}
 use Rattle.pc_spelling.specs.Format.{Reads}
 use Rattle.pc_spelling.proofs.MessageReads.{match_err}
