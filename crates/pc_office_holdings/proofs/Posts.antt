@@ -20,12 +20,12 @@ among-either name [] = refl
 among-either name (other ∷ names) = λ i. same-sym other name i || among-either name names i
 
 module _ (sum weight : ℕ) (table : List Board) where
-  -- a board without messages weighs nothing
-  pub weighed-put : (board : List ℕ) (messages : List (List (List ℕ))) (entries : List Board) → messages ≡ [] → entries ≡ table ++ (board, messages) ∷ [] → sum ≡ weight_on_all table % 18446744073709551616 → sum ≡ weight_on_all entries % 18446744073709551616
-  weighed-put board messages entries none put counted =
-      let empty : weight_on (board, messages) ≡ 0 = ap (λ (l : List (List (List ℕ))). total weight_of l) none in
+  -- a board more is weighed
+  pub weighed-put : (board : List ℕ) (messages : List (List (List ℕ))) (entries : List Board) → weight ≡ total weight_of messages % 18446744073709551616 → entries ≡ table ++ (board, messages) ∷ [] → sum ≡ weight_on_all table % 18446744073709551616 → (sum + weight) % 18446744073709551616 ≡ weight_on_all entries % 18446744073709551616
+  weighed-put board messages entries is put counted =
       let all : weight_on_all entries ≡ weight_on_all table + weight_on_all ((board, messages) ∷ []) = ap weight_on_all put ∙ total-append weight_on table ((board, messages) ∷ []) in
-      omega (arith, empty, all, counted)
+      let one : weight_on_all ((board, messages) ∷ []) ≡ total weight_of messages = omega arith in
+      omega (arith, one, all, counted, is)
 
   -- a message more is weighed
   pub weighed-more : (place : ℕ) (message copy : List (List ℕ)) (old new : List (List (List ℕ))) → copy ≡ message → new ≡ old ++ copy ∷ [] → weight ≡ weight_of message → Some old ≡ slice_get (values_of table) place → sum ≡ weight_on_all table % 18446744073709551616 → (sum + weight) % 18446744073709551616 ≡ weight_on_all (set_value_at table place new) % 18446744073709551616

@@ -1,8 +1,9 @@
 //! The boards of the office.
 
-ghost use Rattle.std.specs.Prelude.{◌≡◌, ℕ, suc, ◌<◌, ◌^◌, List, ◌++◌, [], ◌∷◌, None, option_copied, map, length, OnOk, OnErr};
+ghost use Rattle.std.specs.Prelude.{◌≡◌, ℕ, suc, ◌<◌, ◌%◌, ◌^◌, List, ◌++◌, [], ◌∷◌, None, option_copied, map, length, OnOk, OnErr};
 ghost use Rattle.std.specs.Map.{lookup, keys_of};
-ghost use Rattle.pc_history.specs.Table.{same};
+ghost use Rattle.pc_history.specs.Table.{same, total};
+ghost use Rattle.pc_message.specs.Message.{weight_of};
 ghost use Rattle.pc_office_holdings.specs.Held.{weight_on_all};
 ghost use Rattle.pc_office_holdings.specs.Step.{front_mapped, posted};
 
@@ -44,6 +45,17 @@ impl Messages {
     {
         self.messages.push(message)?;
         Ok(())
+    }
+
+    /// What they count for, each its size and 256 bytes, in a sum of 64 bits that wraps.
+    pub fn weight(&self) -> u64
+        ensures { result ≡ total weight_of self.now % 2 ^ 64 }
+    {
+        let mut sum: u64 = 0;
+        for message in self.messages.iter() {
+            sum = sum.wrapping_add(message.weight() as u64);
+        }
+        sum
     }
 
     /// The messages, in order.
@@ -94,6 +106,13 @@ impl Boards {
         &self.names
     }
 
+    /// The boards with their messages, in order.
+    pub fn table(&self) -> &IndexMap<Name, Messages>
+        ensures { result.now.entries ≡ self.now }
+    {
+        &self.table
+    }
+
     /// How many there are.
     pub fn count(&self) -> usize
         ensures { result ≡ length self.now }
@@ -115,18 +134,29 @@ impl Boards {
         self.sum
     }
 
-    /// Puts a board that isn't there behind the others. After `Err` they aren't used again.
+    /// Puts a new board that isn't there behind the others. After `Err` they aren't used again.
     pub fn add(&mut self, alloc: Global, board: Name) -> Result<(), Memory>
         requires { lookup (same board) self.old ≡ None }
         ensures { OnOk result (self.new ≡ self.old ++ (board, []) ∷ []) }
     {
-        let Ok(()) = tables::put(&mut self.table, board, Messages::new(alloc)) else {
+        self.put(alloc, board, Messages::new(alloc))
+    }
+
+    /// Puts a board that isn't there behind the others, with these messages. After `Err` they
+    /// aren't used again.
+    pub fn put(&mut self, alloc: Global, board: Name, messages: Messages) -> Result<(), Memory>
+        requires { lookup (same board) self.old ≡ None }
+        ensures { OnOk result (self.new ≡ self.old ++ (board, messages) ∷ []) }
+    {
+        let weight = messages.weight();
+        let Ok(()) = tables::put(&mut self.table, board, messages) else {
             return Err(Memory);
         };
         let Ok(()) = self.names.push(board) else {
             *self = Boards::new(alloc);
             return Err(Memory);
         };
+        self.sum = self.sum.wrapping_add(weight);
         Ok(())
     }
 

@@ -62,6 +62,25 @@ impl Holdings {
         }
     }
 
+    /// What a record says of an office.
+    pub fn of(
+        users: Users,
+        addresses: IndexMap<Name, Target>,
+        boards: Boards,
+        accepted: u64,
+        kept: Vec<KeptMail>,
+    ) -> Holdings
+        ensures { result ≡ record { users = users; addresses = addresses.entries; boards = boards; accepted = accepted; kept = kept.items } }
+    {
+        Holdings {
+            users,
+            addresses,
+            boards,
+            accepted,
+            kept,
+        }
+    }
+
     /// The users, in order of making.
     pub fn users(&self) -> &Users
         ensures { result.now ≡ self.now.users }

@@ -84,6 +84,13 @@ impl Users {
         &self.names
     }
 
+    /// The users with their standings, in order.
+    pub fn table(&self) -> &IndexMap<Name, Standing>
+        ensures { result.now.entries ≡ self.now }
+    {
+        &self.table
+    }
+
     /// How many there are.
     pub fn count(&self) -> usize
         ensures { result ≡ length self.now }
@@ -98,12 +105,21 @@ impl Users {
         self.table.get(user).copied()
     }
 
-    /// Puts a user that isn't there behind the others. After `Err` they aren't used again.
+    /// Puts a new user that isn't there behind the others. After `Err` they aren't used again.
     pub fn add(&mut self, alloc: Global, user: Name) -> Result<(), Memory>
         requires { lookup (same user) self.old ≡ None }
         ensures { OnOk result (self.new ≡ self.old ++ (user, new_standing) ∷ []) }
     {
-        let Ok(()) = tables::put(&mut self.table, user, Standing::new()) else {
+        self.put(alloc, user, Standing::new())
+    }
+
+    /// Puts a user that isn't there behind the others, with this standing. After `Err` they aren't
+    /// used again.
+    pub fn put(&mut self, alloc: Global, user: Name, standing: Standing) -> Result<(), Memory>
+        requires { lookup (same user) self.old ≡ None }
+        ensures { OnOk result (self.new ≡ self.old ++ (user, standing) ∷ []) }
+    {
+        let Ok(()) = tables::put(&mut self.table, user, standing) else {
             return Err(Memory);
         };
         let Ok(()) = self.names.push(user) else {

@@ -1,5 +1,7 @@
+pub mod Written
+pub mod ReadItems
+pub mod ReadTables
 pub mod Rows
 pub mod Sizes
-pub mod ReadItems
 pub mod Tallies
 pub mod ReadMails

@@ -16,7 +16,8 @@ use Rattle.pc_office_spelling.specs.Spaces.{space_of, can_follow, open_users, ma
 use Rattle.pc_office_spelling.specs.RecordFormat.{items_from, target_format, kept_format, kept_list_format}
 use Rattle.pc_office_holdings.specs.Held.{noted_of}
 use Rattle.pc_office_records.specs.declared.loading.kept.Row.{Row}
-use Rattle.pc_office_records.specs.ReadKept.{Table, rows_in, follow_in, may_in, count_open, open_in, is_next_number, is_many, AreOpen, AreTallied, IsLast, IsUncounted}
+use Rattle.pc_office_records.specs.Loading.{IsUncounted}
+use Rattle.pc_office_records.specs.ReadKept.{Table, rows_in, follow_in, may_in, count_open, open_in, is_next_number, is_many, AreOpen, AreTallied, IsLast}
 use Rattle.pc_office_records.proofs.Tallies.{keys-noted, number-same, many-same, open-same, open-there, greatest-same, follow-same, tallied-first}
 
 module _ (users : Table) (accepted count last : ℕ) (before : List KeptMail) (tallied : AreTallied before users) (is : IsLast before last) where

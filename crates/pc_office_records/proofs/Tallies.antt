@@ -22,7 +22,8 @@ use Rattle.pc_office_holdings.specs.declared.users.Standing.{Standing}
 use Rattle.pc_office_holdings.specs.Held.{noted_of, IsCounted}
 use Rattle.pc_office_holdings.specs.Step.{with_mail, awaited}
 use Rattle.pc_office_records.specs.declared.loading.kept.Row.{Row}
-use Rattle.pc_office_records.specs.ReadKept.{Table, row_in, rows_in, space_in, upto_in, suits_in, follow_in, is_light_in, may_in, is_open_in, open_in, is_open_row, count_open, is_next_number, is_many, AreOpen, IsTallied, AreTallied, IsLast, IsUncounted}
+use Rattle.pc_office_records.specs.Loading.{IsUncounted}
+use Rattle.pc_office_records.specs.ReadKept.{Table, row_in, rows_in, space_in, upto_in, suits_in, follow_in, is_light_in, may_in, is_open_in, open_in, is_open_row, count_open, is_next_number, is_many, AreOpen, IsTallied, AreTallied, IsLast}
 use Rattle.pc_office_records.proofs.Rows.{target-among}
 
 -- ---- names and lengths

@@ -86,8 +86,3 @@ AreTallied before users = AllByRecursion (IsTallied before) users
 -- the positive numbers past those of the mails are those past the last one
 abbrev pub IsLast : List KeptMail → ℕ → Type 0
 IsLast before last = (number : ℕ) → 0 < number → list_all (λ (mail : KeptMail). nat_lt mail.number number) before ≡ nat_lt last number
-
--- nothing is counted of a user
-pub record IsUncounted (user : List ℕ × Standing) : Type 0 where
-  pub mails : user.1.mails ≡ 0
-  pub weight : user.1.weight ≡ 0

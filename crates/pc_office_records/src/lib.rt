@@ -1,4 +1,7 @@
-//! The record of what the post office holds: written and read.
+//! The record of what the office holds: written and read.
 #![tactic(auto)]
 
 mod loading;
+mod saving;
+
+pub use saving::save;

@@ -1,3 +1,4 @@
 //! The record of the office, read.
 
 mod kept;
+mod tables;

@@ -14,7 +14,8 @@ ghost use Rattle.pc_office_spelling.specs.Spaces.{space_beside, users_of, greate
 ghost use Rattle.pc_office_spelling.specs.RecordFormat.{items_from, target_format, kept_format, kept_list_format};
 ghost use Rattle.pc_office_holdings.specs.declared.users.Standing.{Standing};
 ghost use Rattle.pc_office_holdings.specs.Held.{noted_of, IsCounted};
-ghost use Rattle.pc_office_records.specs.ReadKept.{rows_in, row_in, space_in, upto_in, suits_in, follow_in, is_light_in, may_in, open_in, is_open_row, count_open, is_next_number, is_many, AreOpen, AreTallied, IsLast, IsUncounted};
+ghost use Rattle.pc_office_records.specs.Loading.{IsUncounted};
+ghost use Rattle.pc_office_records.specs.ReadKept.{rows_in, row_in, space_in, upto_in, suits_in, follow_in, is_light_in, may_in, open_in, is_open_row, count_open, is_next_number, is_many, AreOpen, AreTallied, IsLast};
 
 use pc_base::{Memory, Name};
 use pc_history::LAST_MAIL;
@@ -200,15 +201,15 @@ fn space_beside(mails: u64, weight: u64) -> u64
 
 /// What is counted of each user, and whether it is among the targets.
 fn rows_of(alloc: Global, users: &Users, targets: &Targets) -> Result<Vec<Row>, Memory>
-    requires { AreDistinct (keys_of users.now) }
     ensures { IfOk result (λ rows. rows.items ≡ rows_in targets.now users.now) }
 {
     let mut rows = Vec::new(alloc);
-    for name in users.names().as_slice() {
-        if let Some(standing) = users.get(name) {
-            let taken = is_taken(name, targets);
-            rows.push(Row { standing, taken })?;
-        }
+    for (user, standing) in users.table().iter() {
+        let taken = is_taken(user, targets);
+        rows.push(Row {
+            standing: *standing,
+            taken,
+        })?;
     }
     Ok(rows)
 }

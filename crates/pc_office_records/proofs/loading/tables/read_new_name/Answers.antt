@@ -1,0 +1,19 @@
+use Rattle.std.proofs.Common.{sym, ◌∙◌}
+use Rattle.std.specs.Map.{keys_of}
+use Rattle.pc_spelling.specs.Fields.{name_kind, any}
+use Rattle.pc_spelling.specs.RecordFormat.{is_new}
+use Rattle.pc_spelling.proofs.TestedFields.{field_passes, field_fails}
+use Rattle.pc_office_records.proofs.ReadTables.{name_known, name_new, field_ahead}
+use Rattle.pc_office_records.proofs.loading.tables.read_new_name.Goals as goal
+
+pub returns-then-contains_key-clause-read : goal.returns-then-contains_key-clause-read
+returns-then-contains_key-clause-read g c =
+    field_fails name_kind any (is_new (keys_of c.args.table.now.entries)) c.args.cursor.now c.name.new.self c.in_ok-name.name
+    (field_ahead name_kind any c.ahead-ahead.result c.args.cursor.now c.name.new.self c.in_ok-name.name c.ahead-ahead.ensures c.in_ok-name.ensures)
+    (name_known c.in_ok-name.name c.args.table.now.entries (sym c.contains_key.ensures ∙ c.if-contains_key.true))
+
+pub returns-clause-read : goal.returns-clause-read
+returns-clause-read g c =
+    field_passes name_kind any (is_new (keys_of c.args.table.now.entries)) c.args.cursor.now c.name.new.self c.in_ok-name.name
+    (field_ahead name_kind any c.ahead-ahead.result c.args.cursor.now c.name.new.self c.in_ok-name.name c.ahead-ahead.ensures c.in_ok-name.ensures)
+    (name_new c.in_ok-name.name c.args.table.now.entries (sym c.contains_key.ensures ∙ c.if-contains_key.false))
