@@ -1,18 +1,17 @@
 -- Users and their rows.
-use Rattle.std.proofs.Common.{◌≡◌, ℕ, zero, suc, ◌+◌, ◌<◌, ◌≤◌, Bool, true, false, cond, ◌&&◌, ◌||◌, nat_lt, List, [], ◌∷◌, ◌++◌, append_assoc, length, filter, drop, slice_index_or, Option, None, Some, is_some, refl, sym, ap, subst, ◌∙◌, arith, true≢false}
+use Rattle.std.proofs.Common.{◌≡◌, ℕ, ◌<◌, ◌≤◌, Bool, true, false, cond, ◌&&◌, ◌||◌, nat_lt, List, [], ◌∷◌, filter, Option, None, Some, is_some, refl, sym, ap, ◌∙◌, arith}
 use Rattle.std.specs.List.{AllByRecursion as Every}
 use Rattle.std.specs.Option.{option_map_or}
 use Rattle.std.specs.Map.{lookup, keys_of}
 use Rattle.std.proofs.lemmas.Bool.{or_parts, ltb-true, lt-ltb}
 use Rattle.pc_history.specs.Table.{same, is_among}
 use Rattle.pc_history.specs.Legal.{AreDistinct}
-use Rattle.pc_history.proofs.Tables.{same-true, same-refl}
+use Rattle.pc_history.proofs.Tables.{same-true}
 use Rattle.pc_office_history.specs.declared.kept.Target.{Target}
 use Rattle.pc_office_history.specs.Record.{target_of}
 use Rattle.pc_office_spelling.specs.Spaces.{space_beside, users_of}
 use Rattle.pc_office_holdings.specs.declared.users.Standing.{Standing}
-use Rattle.pc_office_records.specs.declared.loading.kept.Row.{Row}
-use Rattle.pc_office_records.specs.ReadKept.{Table, rows_in, is_open_in, open_in}
+use Rattle.pc_office_records.specs.ReadKept.{Table, is_open_in, open_in}
 
 pub target-among : (user : List ℕ) (targets : List Target) → is_some (target_of user targets) ≡ is_among user (users_of targets)
 target-among user [] = refl

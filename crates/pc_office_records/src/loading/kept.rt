@@ -50,7 +50,6 @@ pub(crate) fn read_kept(
 
 /// How many mails wait.
 fn read_count(alloc: Global, cursor: &mut Cursor, users: &Users, accepted: u64) -> Result<u32, Halt>
-    requires distinct { AreDistinct (keys_of users.now) }
     requires few { length users.now ≤ MOST_USERS }
     requires last { accepted ≤ LAST_MAIL }
     ensures { FieldReads u32_kind (λ count. follow_in (rows_in [] users.now) 0 accepted count 0) cursor.old cursor.new result }
@@ -65,6 +64,7 @@ fn read_count(alloc: Global, cursor: &mut Cursor, users: &Users, accepted: u64) 
     Ok(count)
 }
 
+/// So many mails, each counted once it was read.
 fn read_mails(
     alloc: Global,
     cursor: &mut Cursor,
@@ -139,7 +139,6 @@ fn read_waiting(
     accepted: u64,
     left: u32,
 ) -> Result<Message, Halt>
-    requires distinct { AreDistinct (keys_of users.now) }
     requires few { length users.now ≤ MOST_USERS }
     requires last { accepted ≤ LAST_MAIL }
     ensures read { Reads (message_within (greatest (may_in (rows_in targets.now users.now) accepted left) 65536)) cursor.old cursor.new result }
@@ -251,6 +250,7 @@ fn can_follow(rows: &[Row], size: u32, accepted: u64, count: u32, taken: u16) ->
     suit_all(rows, size, accepted, count, taken)
 }
 
+/// Whether there is space enough up to what is noted of each user.
 fn suit_all(rows: &[Row], size: u32, accepted: u64, count: u32, taken: u16) -> bool
     requires few { length rows.now ≤ MOST_USERS }
     requires last { accepted ≤ LAST_MAIL }
@@ -369,6 +369,8 @@ fn read_number(
     Ok(number)
 }
 
+/// Whether a mail may have this number: it is past the last one, leaves a number for each mail
+/// behind it, and there is somebody for whom the mail may wait.
 fn is_next_number(rows: &[Row], last: u64, accepted: u64, left: u32, number: u64) -> bool
     requires { accepted ≤ LAST_MAIL }
     ensures { result ≡ is_next_number last rows.now accepted left number }
@@ -397,6 +399,7 @@ fn read_many(
     Ok(many)
 }
 
+/// Whether a mail of this number may wait for so many, with so many mails behind it.
 fn is_many(rows: &[Row], number: u64, accepted: u64, left: u32, many: u16) -> bool
     requires few { length rows.now ≤ MOST_USERS }
     requires last { accepted ≤ LAST_MAIL }
