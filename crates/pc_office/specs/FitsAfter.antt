@@ -1,12 +1,12 @@
 -- What fits its fields fits again after an entry that does.
-use Rattle.std.proofs.Common.{◌≡◌, ℕ, suc, Bool, true, false, cond, not, ◌&&◌, nat_le, List, [], ◌∷◌, ◌++◌, length, map, filter, Option, None, Some, MatchOption, IsTrue, refl, sym}
-use Rattle.std.specs.Prelude.{⊤, nat_lt}
+use Rattle.std.proofs.Common.{◌≡◌, ℕ, true, false, cond, not, ◌&&◌, nat_le, List, [], ◌∷◌, ◌++◌, map, Some, MatchOption, IsTrue, refl}
+use Rattle.std.specs.Prelude.{⊤}
 use Rattle.std.specs.List.{list_all, AllByRecursion as Every}
 use Rattle.std.specs.Map.{lookup, set_value}
 use Rattle.std.proofs.lemmas.Bool.{and_parts, and_from}
 use Rattle.pc_base.specs.Name.{is_name}
 use Rattle.pc_history.specs.Allowed.{inbox}
-use Rattle.pc_history.specs.Table.{same, is_among, others}
+use Rattle.pc_history.specs.Table.{same, is_among}
 use Rattle.pc_history.proofs.Numbers.{list_all-append, list_all-filter}
 use Rattle.pc_spelling.specs.EntryForm.{is_message}
 use Rattle.pc_office_history.specs.declared.kept.Target.{Target}
@@ -61,10 +61,10 @@ posted-fit names message (board ∷ boards) fit h =
     let here = and_parts (is_name board.0) (list_all is_message board.1) parts.0 in
     and_from (is_name board.0 && list_all is_message (cond (is_among board.0 names) (board.1 ++ message ∷ []) board.1)) (list_all board_fits (with_message names message boards))
     (and_from (is_name board.0) (list_all is_message (cond (is_among board.0 names) (board.1 ++ message ∷ []) board.1)) here.0
-      (elim (is_among board.0 names) as (λ b. list_all is_message (cond b (board.1 ++ message ∷ []) board.1) ≡ true) [
-        | true ↦ list_all-append is_message board.1 (message ∷ []) here.1 (and_from (is_message message) true fit refl)
-        | false ↦ here.1
-      ]))
+    (elim (is_among board.0 names) as (λ b. list_all is_message (cond b (board.1 ++ message ∷ []) board.1) ≡ true) [
+      | true ↦ list_all-append is_message board.1 (message ∷ []) here.1 (and_from (is_message message) true fit refl)
+      | false ↦ here.1
+    ]))
     (posted-fit names message boards fit parts.1)
 
 -- ---- mails
@@ -95,11 +95,11 @@ pulled-fits user number (mail ∷ mails) h =
     let left = cond (nat_le mail.number number) (other_targets user mail.targets) mail.targets in
     and_from (list_all target_fits left && is_message mail.message) (list_all kept_fits (map (pulled_by user number) mails))
     (and_from (list_all target_fits left) (is_message mail.message)
-      (elim (nat_le mail.number number) as (λ b. list_all target_fits (cond b (other_targets user mail.targets) mail.targets) ≡ true) [
-        | true ↦ list_all-filter target_fits (λ target. not (same user target.user)) mail.targets here.0
-        | false ↦ here.0
-      ])
-      here.1)
+    (elim (nat_le mail.number number) as (λ b. list_all target_fits (cond b (other_targets user mail.targets) mail.targets) ≡ true) [
+      | true ↦ list_all-filter target_fits (λ target. not (same user target.user)) mail.targets here.0
+      | false ↦ here.0
+    ])
+    here.1)
     (pulled-fits user number mails parts.1)
 
 -- ---- all entries

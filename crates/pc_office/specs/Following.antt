@@ -1,5 +1,5 @@
 -- What holds of an entry that a store accepts.
-use Rattle.std.proofs.Common.{◌≡◌, ℕ, ◌<◌, ◌≤◌, ◌&&◌, Bool, true, List, length, refl, arith}
+use Rattle.std.proofs.Common.{◌≡◌, ◌≤◌, true, length, refl, arith}
 use Rattle.std.proofs.lemmas.Bool.{and_parts}
 use Rattle.pc_office_history.specs.declared.entry.OfficeEntry.{OfficeEntry}
 use Rattle.pc_office_history.specs.Record.{OfficeRecord, empty_record}

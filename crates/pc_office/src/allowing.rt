@@ -7,10 +7,10 @@ ghost use Rattle.pc_office_history.specs.Known.{said_by};
 ghost use Rattle.pc_office_history.specs.Allowed.{is_user, is_board, is_address, is_free, is_recipient, are_apart, is_allowed};
 ghost use Rattle.pc_office_holdings.specs.Held.{record_in};
 
-use pc_office_holdings::Holdings;
 use pc_base::Name;
 use pc_history::LAST_MAIL;
 use pc_office_history::OfficeEntry;
+use pc_office_holdings::Holdings;
 
 /// Whether the entry is allowed. Its limits aren't tried.
 pub fn is_allowed(holdings: &Holdings, entry: &OfficeEntry) -> bool

@@ -3,6 +3,7 @@
 
 mod allowing;
 mod limits;
+mod machine;
 mod office;
 mod planning;
 mod telling;

@@ -11,8 +11,6 @@ ghost use Rattle.pc_office_holdings.specs.Held.{record_in};
 ghost use Rattle.pc_office.specs.Limits.{IsSendable, is_over as over, has_room as fits_in, are_full};
 ghost use Rattle.pc_office_holdings.specs.State.{IsSound};
 
-use pc_office_holdings::Holdings;
-use pc_office_holdings::Standing;
 use pc_base::{LimitWord, Name};
 use pc_history::LAST_MAIL;
 use pc_message::Message;
@@ -20,6 +18,7 @@ use pc_office_history::{
     MOST_ADDRESSES, MOST_BOARD_MESSAGES, MOST_BOARD_WEIGHT, MOST_BOARDS, MOST_RECIPIENTS,
     MOST_USERS, MOST_WAITING, MOST_WAITING_WEIGHT, OfficeEntry,
 };
+use pc_office_holdings::{Holdings, Standing};
 
 /// The limit that an allowed entry would pass first.
 pub fn limit_passed(holdings: &Holdings, entry: &OfficeEntry) -> Option<LimitWord>

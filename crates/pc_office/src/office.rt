@@ -1,15 +1,19 @@
 //! The post office.
 
-ghost use Rattle.std.specs.Prelude.{◌≡◌, IsTrue, OnOk, OnErr, IfOk};
+ghost use Rattle.std.specs.Prelude.{◌≡◌, ◌≤◌, ◌++◌, length, IsTrue, OnOk, OnErr, IfOk};
+ghost use Rattle.pc_base.specs.Machine.{FaultAt};
+ghost use Rattle.pc_office_spelling.specs.RecordForm.{CanBeSaved, IsRecordFault};
+ghost use Rattle.pc_office_spelling.specs.RecordSpelling.{spelled_record};
 ghost use Rattle.pc_office_history.specs.Record.{empty_record};
 ghost use Rattle.pc_office_history.specs.Known.{said_by};
 ghost use Rattle.pc_office_history.specs.History.{History, ◌▹◌, new_office};
 ghost use Rattle.pc_office_history.specs.Step.{after};
 ghost use Rattle.pc_office_holdings.specs.State.{StandsFor, may_follow};
 
-use pc_office_holdings::Holdings;
-use pc_base::Memory;
+use pc_base::{Bytes, Memory, ReadFault};
 use pc_office_history::OfficeEntry;
+use pc_office_holdings::Holdings;
+use pc_office_records::{load, save};
 use std::alloc::Global;
 use std::marker::Model;
 
@@ -55,5 +59,24 @@ impl Office {
             return Err(Memory);
         }
         Ok(())
+    }
+
+    /// Appends the record of the office. After `Err` nothing is known of what was appended.
+    pub fn save(&self, out: &mut Bytes) -> Result<(), Memory>
+        ensures { OnOk result (out.new ≡ out.old ++ spelled_record self.now) }
+    {
+        save(&self.holdings, out)
+    }
+
+    /// Reads the record of an office. `Malformed` names the first field at which no record goes on.
+    pub fn load(alloc: Global, bytes: &[u8]) -> Result<Office, ReadFault>
+        ensures found { IfOk result (λ office. CanBeSaved office × (spelled_record office ≡ bytes.now)) }
+        ensures fault { FaultAt result (IsRecordFault bytes.now) }
+        ensures within { FaultAt result (λ place. place ≤ length bytes.now) }
+    {
+        match load(alloc, bytes) {
+            Ok(holdings) => Ok(Office { holdings }),
+            Err(fault) => Err(fault),
+        }
     }
 }

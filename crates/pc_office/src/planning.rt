@@ -18,8 +18,6 @@ ghost use Rattle.pc_office_holdings.specs.State.{StandsFor, may_follow, IsSound}
 ghost use Rattle.pc_office.specs.Plan.{fault_of, first_stranger, sent_to_names, sent, planned, may_give_up as gives_up, IsAtOnce};
 
 use crate::allowing::{is_allowed, is_free, is_recipient, is_user};
-use pc_office_holdings::Holdings;
-use pc_office_spelling::fits;
 use crate::limits::{
     limit_of_address, limit_of_mail, limit_of_new_board, limit_of_user, limit_passed,
 };
@@ -29,6 +27,8 @@ use pc_account::AskFault;
 use pc_base::{LimitWord, Name, Names, Recipient, Refusal};
 use pc_message::{Message, RecipientFault, recipients};
 use pc_office_history::{MOST_RECIPIENTS, OfficeEntry};
+use pc_office_holdings::Holdings;
+use pc_office_spelling::fits;
 use std::alloc::Global;
 
 impl Office {

@@ -3,4 +3,5 @@
 mod full;
 mod player;
 mod rows;
+mod saved;
 mod words;
