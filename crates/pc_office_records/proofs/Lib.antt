@@ -5,3 +5,4 @@ pub mod Rows
 pub mod Sizes
 pub mod Tallies
 pub mod ReadMails
+pub mod ReadRecord

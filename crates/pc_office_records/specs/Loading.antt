@@ -13,10 +13,6 @@ pub record IsUncounted (user : List ℕ × Standing) : Type 0 where
 abbrev pub AreUncounted : List (List ℕ × Standing) → Type 0
 AreUncounted users = AllByRecursion IsUncounted users
 
--- what is noted of a user isn't past this number
-abbrev pub is_noted_upto : ℕ → List ℕ × Standing → Bool
-is_noted_upto accepted user = nat_le user.1.noted accepted
-
--- so many mails can have been accepted
-abbrev pub is_accepted : List (List ℕ × Standing) → ℕ → Bool
-is_accepted users accepted = list_all (is_noted_upto accepted) users && nat_le accepted LAST_MAIL
+-- so many mails can have been accepted, where this is noted of the users
+abbrev pub is_accepted : List (List ℕ × ℕ) → ℕ → Bool
+is_accepted users accepted = list_all (λ (user : List ℕ × ℕ). nat_le user.1 accepted) users && nat_le accepted LAST_MAIL

@@ -4,4 +4,5 @@
 mod loading;
 mod saving;
 
+pub use loading::load;
 pub use saving::save;

@@ -251,12 +251,7 @@ fn read_unused_name<'a>(
 }
 
 /// Whether a user, an address or a board has this name.
-fn is_taken(
-    name: &Name,
-    users: &Users,
-    addresses: &IndexMap<Name, Target>,
-    boards: &Boards,
-) -> bool
+fn is_taken(name: &Name, users: &Users, addresses: &IndexMap<Name, Target>, boards: &Boards) -> bool
     ensures { result ≡ is_among name.now ((keys_of users.now ++ keys_of addresses.now.entries) ++ keys_of boards.now) }
 {
     if users.table().contains_key(name) {
