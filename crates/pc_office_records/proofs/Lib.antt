@@ -1,8 +1,8 @@
 pub mod Written
 pub mod ReadItems
 pub mod ReadTables
-pub mod ReadRecord
 pub mod Rows
 pub mod Sizes
 pub mod Tallies
 pub mod ReadMails
+pub mod ReadRecord
