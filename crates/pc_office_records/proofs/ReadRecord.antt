@@ -1,11 +1,9 @@
 -- What reading a record says of its bytes, and of what is counted.
-use Rattle.std.proofs.Common.{◌≡◌, ℕ, ◌≤◌, ◌&&◌, nat_le, Bool, true, false, List, [], ◌∷◌, ◌++◌, length, map, Result, Ok, Err, MatchResult, IfOk, refl, sym, ap, subst, arith}
+use Rattle.std.proofs.Common.{◌≡◌, ℕ, ◌≤◌, ◌&&◌, nat_le, Bool, false, List, [], ◌∷◌, ◌++◌, length, map, Result, Ok, Err, MatchResult, IfOk, refl, sym, ap, subst, arith}
 use Rattle.std.specs.List.{list_all}
 use Rattle.std.specs.Map.{keys_of}
-use Rattle.std.proofs.lemmas.Bool.{leb-true, le-leb, and_parts, and_from}
 use Rattle.pc_history.specs.declared.limits.TheConstants.{LAST_MAIL}
 use Rattle.pc_history.specs.Legal.{AreDistinct}
-use Rattle.pc_spelling.specs.Fields.{within}
 use Rattle.pc_spelling.specs.Format.{Format, ends, Took, Stuck, Reads}
 use Rattle.pc_spelling.specs.declared.spelling.cursor.Halt.{Halt}
 use Rattle.pc_spelling.specs.declared.spelling.cursor.Halt.TheVariants.{NoField}
@@ -48,17 +46,7 @@ addresses-read users old new read reads = subst (λ (names : List (List ℕ)). R
 pub boards-read : (users : Table) (addresses : List (List ℕ × Target)) (old new : List ℕ) (read : Result Boards Halt) → Reads (boards_format (keys_of users ++ keys_of addresses)) old new read → Reads (boards_format (keys_of (map noted_of users) ++ keys_of addresses)) old new read
 boards-read users addresses old new read reads = subst (λ (names : List (List ℕ)). Reads (boards_format (names ++ keys_of addresses)) old new read) (sym (keys-noted users)) reads
 
--- the number of mails that were accepted
-pub accepted-within : (users : List (List ℕ × ℕ)) (accepted : ℕ) → is_accepted users accepted ≡ true → within 0 LAST_MAIL accepted ≡ true
-accepted-within users accepted e =
-    and_from (nat_le 0 accepted) (nat_le accepted LAST_MAIL) (le-leb 0 accepted (omega arith)) (and_parts (list_all (λ (user : List ℕ × ℕ). nat_le user.1 accepted) users) (nat_le accepted LAST_MAIL) e).1
-
-pub last-accepted : (accepted : ℕ) → within 0 LAST_MAIL accepted ≡ true → accepted ≤ LAST_MAIL
-last-accepted accepted e = leb-true accepted LAST_MAIL (and_parts (nat_le 0 accepted) (nat_le accepted LAST_MAIL) e).1
-
-pub accepted-passes : (users : List (List ℕ × ℕ)) (accepted : ℕ) → list_all (λ (user : List ℕ × ℕ). nat_le user.1 accepted) users ≡ true → within 0 LAST_MAIL accepted ≡ true → is_accepted users accepted ≡ true
-accepted-passes users accepted noted e = and_from (list_all (λ (user : List ℕ × ℕ). nat_le user.1 accepted) users) (nat_le accepted LAST_MAIL) noted (and_parts (nat_le 0 accepted) (nat_le accepted LAST_MAIL) e).1
-
+-- fewer were accepted than are noted of a user
 pub accepted-fails : (users : List (List ℕ × ℕ)) (accepted : ℕ) → list_all (λ (user : List ℕ × ℕ). nat_le user.1 accepted) users ≡ false → is_accepted users accepted ≡ false
 accepted-fails users accepted past = ap (λ (b : Bool). b && nat_le accepted LAST_MAIL) past
 

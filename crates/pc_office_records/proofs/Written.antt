@@ -2,12 +2,11 @@
 use Rattle.std.proofs.Common.{◌≡◌, ℕ, ◌+◌, ◌<◌, ◌≤◌, nat_lt, List, [], ◌∷◌, ◌++◌, length, drop, get_or, Result, Ok, Err, OnOk, sym, ap, subst, ◌∙◌, append_assoc, arith}
 use Rattle.std.specs.List.{concat, list_any, AllByRecursion as Every}
 use Rattle.std.specs.Map.{keys_of}
-use Rattle.std.proofs.lemmas.Bool.{ltb-false, or_parts}
+use Rattle.std.proofs.lemmas.Bool.{or_parts}
 use Rattle.std.proofs.lemmas.List.{drop_more}
 use Rattle.pc_history.specs.Table.{total}
 use Rattle.pc_history.proofs.Uids.{Every-weaker}
 use Rattle.pc_spelling.proofs.Loops.{concat-append}
-use Rattle.pc_spelling.proofs.GoodTables.{length-keys}
 use Rattle.pc_office_history.specs.declared.limits.TheConstants.{MOST_BOARD_MESSAGES, MOST_BOARD_WEIGHT}
 use Rattle.pc_office_history.specs.declared.kept.KeptMail.{KeptMail}
 use Rattle.pc_office_history.specs.Record.{OfficeRecord}
@@ -57,15 +56,6 @@ kept-written out n ts ms o1 o2 o3 e1 e2 e3 =
 -- ---- a canonical record has few of each
 
 module _ (r : OfficeRecord) (canonical : IsCanonical r) where
-  pub few-users : length r.users < 65536
-  few-users = let keys = length-keys r.users in let few = ltb-false 32 (length (keys_of r.users)) canonical.within.0 in omega (arith, keys, few)
-
-  pub few-boards : length r.boards < 65536
-  few-boards = let keys = length-keys r.boards in let few = ltb-false 64 (length (keys_of r.boards)) canonical.within.1.0 in omega (arith, keys, few)
-
-  pub few-addresses : length r.addresses < 65536
-  few-addresses = let keys = length-keys r.addresses in let few = ltb-false 1024 (length (keys_of r.addresses)) canonical.within.1.1.0 in omega (arith, keys, few)
-
   pub few-kept : length r.kept < 4294967296
   few-kept = let is = bounded r canonical in let mails = is.mails in let targets = is.targets in omega (arith, mails, targets)
 
