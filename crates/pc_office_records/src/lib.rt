@@ -3,6 +3,8 @@
 
 mod loading;
 mod saving;
+#[cfg(test)]
+mod tests;
 
 pub use loading::load;
 pub use saving::save;
