@@ -1,4 +1,4 @@
-//! Tests that cross crates: what stores of accounts leave and open, byte for byte, and what sessions over them say.
+//! Tests that cross crates: what stores of accounts and of the office leave and open, byte for byte, and what sessions over them say.
 #![tactic(auto)]
 
 #[cfg(test)]
@@ -9,6 +9,8 @@ mod commits;
 mod connections;
 #[cfg(test)]
 mod houses;
+#[cfg(test)]
+mod offices;
 #[cfg(test)]
 mod openings;
 #[cfg(test)]
