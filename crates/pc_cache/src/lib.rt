@@ -3,4 +3,4 @@
 
 mod descriptors;
 mod mailboxes;
-
+mod name_set;
