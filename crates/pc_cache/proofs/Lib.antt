@@ -1,3 +1,4 @@
 mod Counted
 mod Places
 mod Sets
+mod Standing
