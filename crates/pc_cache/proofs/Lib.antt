@@ -1,4 +1,6 @@
+mod Apart
 mod Counted
 mod Places
 mod Sets
 mod Standing
+mod Taking

@@ -3,11 +3,12 @@
 ghost use Rattle.std.specs.Prelude.{◌≡◌, IsTrue, OnOk, OnErr, IfOk};
 ghost use Rattle.pc_cache_history.specs.Record.{empty_record};
 ghost use Rattle.pc_cache_history.specs.Known.{said_by};
-ghost use Rattle.pc_cache_history.specs.History.{History, ◌▻◌, new_cache};
+ghost use Rattle.pc_cache_history.specs.History.{History, ◌▻◌, new_cache, known};
 ghost use Rattle.pc_cache_history.specs.Allowed.{is_allowed};
 ghost use Rattle.pc_cache_history.specs.Step.{after};
 ghost use Rattle.pc_cache.specs.State.{StandsFor};
 
+use crate::allowing::is_allowed;
 use crate::holdings::Holdings;
 use pc_base::Memory;
 use pc_cache_history::CacheEntry;
@@ -40,6 +41,15 @@ impl Cache {
         Ok(Cache {
             holdings: Holdings::empty(alloc),
         })
+    }
+
+    /// Whether the entry may come next. It takes no memory. A `Took` whose uids don't rise and a
+    /// `Kept` take time by the square of their length.
+    pub fn allows(&self, entry: &CacheEntry) -> bool
+        ensures held { result ≡ is_allowed (said_by self.now) entry.now }
+        ensures history { (h : History) → StandsFor self.now h → result ≡ is_allowed (known h) entry.now }
+    {
+        is_allowed(&self.holdings, entry)
     }
 
     /// Makes the step of an allowed entry. After `Err` the cache isn't used again; it is empty.
