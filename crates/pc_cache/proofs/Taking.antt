@@ -1,14 +1,14 @@
 -- Whether there is room for changes.
-use Rattle.std.proofs.Common.{◌≡◌, ℕ, suc, ◌+◌, ◌<◌, ◌≤◌, ◌==◌, Bool, true, false, cond, ◌&&◌, nat_lt, nat_le, List, [], ◌∷◌, ◌++◌, map, length, is_some, inl, inr, refl, sym, ap, ◌∙◌, arith, lt-ltb, le-ltb, le-leb, length-append}
+use Rattle.std.proofs.Common.{◌≡◌, ℕ, suc, ◌+◌, ◌≤◌, Bool, true, false, cond, ◌&&◌, nat_lt, nat_le, List, [], ◌∷◌, ◌++◌, length, is_some, inl, inr, refl, sym, ap, ◌∙◌, arith, lt-ltb, le-ltb, le-leb, length-append}
 use Rattle.std.specs.List.{filter}
 use Rattle.std.specs.Map.{lookup, keys_of}
 use Rattle.std.proofs.lemmas.Bool.{cases_lt, lt-leb}
 use Rattle.pc_message.specs.declared.descriptor.Change.{Change}
-use Rattle.pc_history.specs.Table.{same, is_among}
+use Rattle.pc_history.specs.Table.{same}
 use Rattle.pc_history.proofs.Tables.{is_among-keys}
 use Rattle.pc_cache_history.specs.declared.entry.CacheEntry.TheVariants.{Took}
 use Rattle.pc_cache_history.specs.Record.{CacheRecord, descriptors_in}
-use Rattle.pc_cache_history.specs.Effect.{mailboxes_after, with_changes}
+use Rattle.pc_cache_history.specs.Effect.{mailboxes_after}
 use Rattle.pc_cache_history.specs.Known.{said_by, after_entry}
 use Rattle.pc_cache_history.specs.History.{start}
 use Rattle.pc_cache_history.specs.Allowed.{descriptor_count, are_changes, has_room}

@@ -25,7 +25,10 @@ pub fn is_allowed(holdings: &Holdings, entry: &CacheEntry) -> bool
         CacheEntry::Took { mailbox, changes } => may_take(holdings, mailbox, changes.as_slice()),
         CacheEntry::Kept { names } => may_keep(holdings, names.as_slice()),
         CacheEntry::Queue {
-            mailbox, uid, flag, ..
+            mailbox,
+            uid,
+            flag,
+            ..
         } => may_queue(holdings, mailbox, *uid, *flag),
         CacheEntry::Answered { number } => is_queued(holdings, *number),
     }

@@ -10,5 +10,7 @@ mod mailboxes;
 mod name_set;
 mod room;
 mod telling;
+#[cfg(test)]
+mod tests;
 
 pub use cache::Cache;

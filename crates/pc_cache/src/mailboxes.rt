@@ -123,12 +123,7 @@ impl Mailboxes {
 
     /// Takes changes of a mailbox, which comes last where it isn't there. After `Err` they aren't
     /// used again.
-    pub fn take(
-        &mut self,
-        alloc: Global,
-        mailbox: &Name,
-        changes: &[Change],
-    ) -> Result<(), Memory>
+    pub fn take(&mut self, alloc: Global, mailbox: &Name, changes: &[Change]) -> Result<(), Memory>
         ensures { OnOk result (self.new ≡ with_value mailbox.now (with_changes changes.now (found_in mailbox.now self.old)) self.old) }
     {
         if self.contains(mailbox) {

@@ -1,8 +1,7 @@
-use Rattle.std.proofs.Common.{◌≡◌, ◌≤◌, List, [], nat_le, length, sym, ap, ◌∙◌, arith}
+use Rattle.std.proofs.Common.{◌≡◌, [], nat_le, length, sym, ap, ◌∙◌, arith}
 use Rattle.std.specs.List.{filter}
 use Rattle.std.specs.Map.{keys_of}
 use Rattle.std.proofs.lemmas.Bool.{leb-true}
-use Rattle.pc_message.specs.declared.descriptor.Change.{Change}
 use Rattle.pc_cache_history.specs.declared.entry.CacheEntry.TheVariants.{Took}
 use Rattle.pc_cache_history.specs.Effect.{mailboxes_after}
 use Rattle.pc_cache_history.specs.Laws.{takes_away, brings}

@@ -1,4 +1,4 @@
-use Rattle.std.proofs.Common.{◌≡◌, ◌==◌, not, List, ap, ◌∙◌, rules}
+use Rattle.std.proofs.Common.{◌≡◌, ◌==◌, not, ap, ◌∙◌, rules}
 use Rattle.std.proofs.lemmas.Fn.{filter_same}
 use Rattle.pc_cache_history.specs.declared.item.Item.{Item}
 use Rattle.pc_cache_history.specs.Effect.{other_items}

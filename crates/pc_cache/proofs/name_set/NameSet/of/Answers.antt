@@ -1,4 +1,4 @@
-use Rattle.std.proofs.Common.{ℕ, List, ◌||◌, ◌+◌, drop, sym, ap, ◌∙◌, ◌∷◌}
+use Rattle.std.proofs.Common.{◌||◌, ◌+◌, drop, sym, ap, ◌∙◌, ◌∷◌}
 use Rattle.std.proofs.lemmas.List.{drop_more}
 use Rattle.pc_history.specs.Table.{is_among}
 use Rattle.pc_cache.proofs.Sets.{set-step}
