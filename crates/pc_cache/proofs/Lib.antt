@@ -1,5 +1,6 @@
 mod Apart
 mod Counted
+mod Gone
 mod Places
 mod Sets
 mod Standing

@@ -7,8 +7,9 @@ ghost use Rattle.pc_message.specs.declared.descriptor.Descriptor.{Descriptor as 
 ghost use Rattle.pc_cache_history.specs.Record.{descriptor_at};
 ghost use Rattle.pc_cache_history.specs.Effect.{with_descriptor, other_descriptors, with_change, with_changes};
 ghost use Rattle.pc_cache_history.specs.Legal.{AreRising};
-ghost use Rattle.pc_cache.specs.Places.{is_below};
+ghost use Rattle.pc_cache.specs.Places.{is_below, AreNamed};
 
+use indexmap::IndexSet;
 use pc_base::Memory;
 use pc_message::{Change, Descriptor};
 use std::alloc::Global;
@@ -100,11 +101,38 @@ impl Descriptors {
     pub fn take_all(&mut self, alloc: Global, changes: &[Change]) -> Result<(), Memory>
         ensures { OnOk result (self.new ≡ with_changes changes.now self.old) }
     {
+        self.drop_gone(alloc, changes)?;
         for change in changes {
             self.take(alloc, change)?;
         }
         Ok(())
     }
+
+    /// Takes away in one pass what the changes say is gone, where that is more than one.
+    fn drop_gone(&mut self, alloc: Global, changes: &[Change]) -> Result<(), Memory>
+        ensures { OnOk result (with_changes changes.now self.new ≡ with_changes changes.now self.old) }
+    {
+        let gone = gone_in(alloc, changes)?;
+        if gone.len() <= 1 {
+            return Ok(());
+        }
+        self.descriptors
+            .retain(|descriptor| !gone.contains(&descriptor.uid));
+        Ok(())
+    }
+}
+
+/// The uids of the messages that are gone.
+fn gone_in(alloc: Global, changes: &[Change]) -> Result<IndexSet<u32>, Memory>
+    ensures { IfOk result (λ gone. AreNamed gone.keys changes.now) }
+{
+    let mut gone = IndexSet::new(alloc);
+    for change in changes {
+        if let Change::Expunged(uid) = change {
+            gone.insert(*uid)?;
+        }
+    }
+    Ok(gone)
 }
 
 /// Another descriptor that says the same.
