@@ -7,9 +7,11 @@ ghost use Rattle.pc_history.specs.Table.{same};
 ghost use Rattle.pc_history.specs.Allowed.{rises_from};
 ghost use Rattle.pc_cache_history.specs.Entry.{uid_of as named_by};
 ghost use Rattle.pc_cache_history.specs.Allowed.{are_different};
+ghost use Rattle.pc_cache.specs.Names.{is_before as before, names_rise};
 
 use pc_base::Name;
 use pc_message::Change;
+use std::cmp::Ordering;
 
 /// Whether no uid comes twice. It takes time by the number of changes where their uids rise, from 1
 /// on, and otherwise by its square: nothing can be put in order without memory.
@@ -22,8 +24,47 @@ pub fn uids_differ(changes: &[Change]) -> bool
     are_apart(changes)
 }
 
-/// Whether no name comes twice. It takes time by the square of their number.
+/// Whether no name comes twice. It takes time by the number of names where they rise, byte by byte,
+/// and otherwise by its square.
 pub fn names_differ(names: &[Name]) -> bool
+    ensures { result ≡ are_different same names.now }
+{
+    if names_rise(names) {
+        return true;
+    }
+    stand_apart(names)
+}
+
+/// Whether the names rise, byte by byte.
+fn names_rise(names: &[Name]) -> bool
+    ensures { result ≡ names_rise names.now }
+{
+    let [first, others @ ..] = names else {
+        return true;
+    };
+    let mut last = *first;
+    for name in others {
+        if !is_before(&last, name) {
+            return false;
+        }
+        last = *name;
+    }
+    true
+}
+
+/// Whether the first name is below the other, byte by byte.
+fn is_before(name: &Name, other: &Name) -> bool
+    ensures { result ≡ before name.now other.now }
+{
+    match name.cmp(other) {
+        Ordering::Less => true,
+        Ordering::Equal => false,
+        Ordering::Greater => false,
+    }
+}
+
+/// Whether no name comes twice, in time by the square of their number.
+fn stand_apart(names: &[Name]) -> bool
     ensures { result ≡ are_different same names.now }
 {
     let mut rest = names;

@@ -88,7 +88,7 @@ const LEFT_OUT: [(&str, &str); 15] = [
 
 /// What isn't allowed: before the lists begin anew; a uid or a name twice; a change of no message,
 /// or of no flag; and an answer to no change.
-const REFUSED: [(&str, &str); 20] = [
+const REFUSED: [(&str, &str); 24] = [
     ("Took inbox", "no"),
     ("Kept", "no"),
     ("Queue inbox 7 2 1", "no"),
@@ -109,4 +109,8 @@ const REFUSED: [(&str, &str); 20] = [
     ("Answered 1", "ok"),
     ("Answered 1", "no"),
     ("View inbox", "7:1 9:0 "),
+    ("Took inbox 9 gone 7 gone 8 2", "ok"),
+    ("View inbox", "8:2 "),
+    ("Kept inbox inbox work", "no"),
+    ("Kept inbox work", "ok"),
 ];

@@ -1,7 +1,7 @@
 use Rattle.std.proofs.Common.{◌≡◌, length}
 use Rattle.pc_history.specs.Table.{same}
 use Rattle.pc_cache_history.specs.Allowed.{are_different}
-use Rattle.pc_cache.proofs.differing.names_differ.Given as goal
+use Rattle.pc_cache.proofs.differing.stand_apart.Given as goal
 
 -- no name comes twice exactly where none does among the rest
 abbrev pub invariant-loop-rest : goal.invariant-loop-rest
