@@ -1,0 +1,7 @@
+mod Apart
+mod Counted
+mod Gone
+mod Places
+mod Sets
+mod Standing
+mod Taking
