@@ -1,17 +1,17 @@
 -- A plan's entry may be committed by a store.
 use Rattle.std.proofs.Common.{◌≡◌, true, Option, None, Some, is_none, Result, Ok, Err, IsTrue, IfOk, IfSome}
 use Rattle.std.proofs.lemmas.Bool.{and_from, and_parts}
-use Rattle.pc_history.specs.declared.entry.Entry.{Entry}
-use Rattle.pc_history.specs.Known.{Known}
-use Rattle.pc_history.specs.Allowed.{is_allowed}
-use Rattle.pc_history.specs.Limits.{limit_passed}
-use Rattle.pc_spelling.specs.EntryForm.{entry_fits}
-use Rattle.pc_account.specs.declared.wish.AskFault.{AskFault}
+use Rattle.pc_account_history.specs.declared.entry.Entry.{Entry}
+use Rattle.pc_account_history.specs.Known.{Known}
+use Rattle.pc_account_history.specs.Allowed.{is_allowed}
+use Rattle.pc_account_history.specs.Limits.{limit_passed}
+use Rattle.pc_account_spelling.specs.EntryForm.{entry_fits}
+use Rattle.pc_base.specs.declared.ask_fault.AskFault.{AskFault}
+use Rattle.pc_base.specs.AskFault.{Tells}
 use Rattle.pc_account.specs.declared.wish.Wish.{Wish}
-use Rattle.pc_account.specs.Answers.{Tells}
-use Rattle.pc_records.specs.Legal.{accepts}
+use Rattle.pc_account_records.specs.Legal.{accepts}
 use Rattle.pc_account.specs.Plan.{planned, IsWish}
-use Rattle.pc_holdings.specs.State.{State, said, may_follow}
+use Rattle.pc_account_holdings.specs.State.{State, said, may_follow}
 use Rattle.pc_account.proofs.Settling.{planned-follows}
 
 -- the entry of a plan fits its fields wherever it is allowed

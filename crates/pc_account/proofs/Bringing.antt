@@ -5,23 +5,24 @@ use Rattle.std.specs.Map.{keys_of}
 use Rattle.std.proofs.lemmas.Bool.{and_parts}
 use Rattle.pc_base.specs.declared.refusal.LimitWord.TheVariants.{Uids, Messages, Bytes, Changes}
 use Rattle.pc_message.specs.Message.{weight_of}
-use Rattle.pc_history.specs.declared.kept.Kept.{Kept}
-use Rattle.pc_history.specs.declared.entry.Entry.{Entry}
-use Rattle.pc_history.specs.declared.limits.TheConstants.{MOST_UIDS, MOST_MESSAGES, MOST_WEIGHT, MOST_CHANGES}
-use Rattle.pc_history.specs.Table.{same, is_among, total}
-use Rattle.pc_history.specs.Record.{MailboxRecord, AccountRecord, mailbox_of}
-use Rattle.pc_history.specs.Effect.{gives, live_after, dropped_after, clients_after}
-use Rattle.pc_history.specs.Known.{Known, said_by, after_entry}
-use Rattle.pc_history.specs.Allowed.{is_allowed, messages}
-use Rattle.pc_history.specs.Limits.{is_passed, limits_of, limit_passed, weight, listed_count, mailbox_names}
-use Rattle.pc_history.specs.Step.{after}
-use Rattle.pc_history.specs.Legal.{AreDistinct, IsWellFormed, IsCanonical}
-use Rattle.pc_history.proofs.Numbers.{list_all-weaker}
-use Rattle.pc_history.proofs.FormedAfter.{IsWellFormed-after}
-use Rattle.pc_history.proofs.Agreement.{after-said_by}
-use Rattle.pc_history.proofs.Counts.{messages-said_by, lists-counted}
-use Rattle.pc_history.proofs.Mailboxes.{box_by, mailbox_of-after, IsMailbox-mailbox_of}
-use Rattle.pc_holdings.specs.Mailboxes.{listed_in}
+use Rattle.pc_account_history.specs.declared.kept.Kept.{Kept}
+use Rattle.pc_account_history.specs.declared.entry.Entry.{Entry}
+use Rattle.pc_account_history.specs.declared.limits.TheConstants.{MOST_UIDS, MOST_MESSAGES, MOST_WEIGHT, MOST_CHANGES}
+use Rattle.pc_tables.specs.Table.{same, is_among, total}
+use Rattle.pc_account_history.specs.Record.{MailboxRecord, AccountRecord, mailbox_of}
+use Rattle.pc_account_history.specs.Effect.{gives, live_after, dropped_after, clients_after}
+use Rattle.pc_account_history.specs.Known.{Known, said_by, after_entry}
+use Rattle.pc_account_history.specs.Allowed.{is_allowed, messages}
+use Rattle.pc_account_history.specs.Limits.{is_passed, limits_of, limit_passed, weight, listed_count, mailbox_names}
+use Rattle.pc_account_history.specs.Step.{after}
+use Rattle.pc_tables.specs.Order.{AreDistinct}
+use Rattle.pc_account_history.specs.Legal.{IsWellFormed, IsCanonical}
+use Rattle.pc_tables.proofs.Lists.{list_all-weaker}
+use Rattle.pc_account_history.proofs.FormedAfter.{IsWellFormed-after}
+use Rattle.pc_account_history.proofs.Agreement.{after-said_by}
+use Rattle.pc_account_history.proofs.Counts.{messages-said_by, lists-counted}
+use Rattle.pc_account_history.proofs.Mailboxes.{box_by, mailbox_of-after, IsMailbox-mailbox_of}
+use Rattle.pc_account_holdings.specs.Mailboxes.{listed_in}
 use Rattle.pc_account.specs.Limits.{limit_where, parcels_to, weight_in, has_uids, has_places, limit_of_parcels}
 use Rattle.pc_account.proofs.Changed.{distinct-front}
 use Rattle.pc_account.proofs.Spread.{total-alike, total-sum, total-times, total-ones, spread, names-pass}

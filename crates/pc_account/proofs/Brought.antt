@@ -5,25 +5,25 @@ use Rattle.std.specs.Map.{keys_of}
 use Rattle.std.specs.Option.{option_map}
 use Rattle.std.proofs.lemmas.Bool.{and_parts, and_from}
 use Rattle.pc_message.specs.Message.{size_of, weight_of}
-use Rattle.pc_history.specs.declared.kept.Kept.{Kept}
-use Rattle.pc_history.specs.declared.kept.Listed.{Listed}
-use Rattle.pc_history.specs.declared.entry.Entry.TheVariants.{Copy, Pull}
-use Rattle.pc_history.specs.Table.{same, is_among, total, map_values, numbers}
-use Rattle.pc_history.specs.Record.{MailboxRecord, AccountRecord, mailbox_of, kept_at}
-use Rattle.pc_history.specs.Effect.{letters_to, arrived, copy_as}
-use Rattle.pc_history.specs.Known.{said_by}
-use Rattle.pc_history.specs.Allowed.{is_allowed}
-use Rattle.pc_history.specs.Step.{touched, with_message}
-use Rattle.pc_history.specs.Legal.{IsMailbox, IsWellFormed, IsCanonical, IsChange, AreListsOf}
-use Rattle.pc_history.specs.Limits.{limit_passed}
-use Rattle.pc_history.proofs.Tables.{some-same, some-none}
-use Rattle.pc_history.proofs.Needs.{copy-parts, pull-parts}
-use Rattle.pc_history.proofs.Numbers.{total-append}
-use Rattle.pc_history.proofs.Uids.{has_number-numbers, within-below, Every-numbers}
-use Rattle.pc_history.proofs.Boxes.{touched-none, touched-twice}
-use Rattle.pc_history.proofs.Mailboxes.{with_mails, IsMailbox-mailbox_of}
+use Rattle.pc_account_history.specs.declared.kept.Kept.{Kept}
+use Rattle.pc_account_history.specs.declared.kept.Listed.{Listed}
+use Rattle.pc_account_history.specs.declared.entry.Entry.TheVariants.{Copy, Pull}
+use Rattle.pc_tables.specs.Table.{same, is_among, total, map_values, numbers}
+use Rattle.pc_account_history.specs.Record.{MailboxRecord, AccountRecord, mailbox_of, kept_at}
+use Rattle.pc_account_history.specs.Effect.{letters_to, arrived, copy_as}
+use Rattle.pc_account_history.specs.Known.{said_by}
+use Rattle.pc_account_history.specs.Allowed.{is_allowed}
+use Rattle.pc_account_history.specs.Step.{touched, with_message}
+use Rattle.pc_account_history.specs.Legal.{IsMailbox, IsWellFormed, IsCanonical, IsChange, AreListsOf}
+use Rattle.pc_account_history.specs.Limits.{limit_passed}
+use Rattle.pc_tables.proofs.Options.{some-same, some-none}
+use Rattle.pc_account_history.proofs.Needs.{copy-parts, pull-parts}
+use Rattle.pc_tables.proofs.Totals.{total-append}
+use Rattle.pc_tables.proofs.Numbers.{has_number-numbers, within-below, Every-numbers}
+use Rattle.pc_account_history.proofs.Boxes.{touched-none, touched-twice}
+use Rattle.pc_account_history.proofs.Mailboxes.{with_mails, IsMailbox-mailbox_of}
 use Rattle.pc_mailbox.specs.UpdateList.{Rise}
-use Rattle.pc_holdings.specs.Mailboxes.{listed_in}
+use Rattle.pc_account_holdings.specs.Mailboxes.{listed_in}
 use Rattle.pc_account.specs.Limits.{parcel_of, parcels_to, weight_in, limit_of_parcels}
 use Rattle.pc_account.proofs.Touched.{missing, lists-apart, touched-for-all, unlisted-above}
 use Rattle.pc_account.proofs.Changed.{listed-with_message}

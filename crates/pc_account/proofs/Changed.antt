@@ -3,31 +3,32 @@ use Rattle.std.proofs.Common.{◌≡◌, ℕ, suc, ◌+◌, ◌<◌, Bool, true,
 use Rattle.std.specs.List.{filter, AllByRecursion as Every}
 use Rattle.std.specs.Map.{lookup, set_value, keys_of}
 use Rattle.std.specs.Option.{option_map_or}
-use Rattle.pc_history.specs.declared.kept.Kept.{Kept}
-use Rattle.pc_history.specs.declared.kept.Listed.{Listed}
-use Rattle.pc_history.specs.declared.entry.Entry.{Entry}
-use Rattle.pc_history.specs.declared.entry.Entry.TheVariants.{DropMailbox, ResetClient, MakeClient}
-use Rattle.pc_history.specs.Table.{same, total, others, is_among}
-use Rattle.pc_history.specs.Record.{MailboxRecord, AccountRecord, mailbox_of}
-use Rattle.pc_history.specs.Known.{said_by, after_entry}
-use Rattle.pc_history.specs.Allowed.{is_allowed}
-use Rattle.pc_history.specs.Limits.{listed_count}
-use Rattle.pc_history.specs.Step.{uids_of, stamped, touched, with_message, with_flag_set, expunged, emptied, reset_for, with_client, at_mailbox, after}
-use Rattle.pc_history.specs.Legal.{IsMailbox, IsWellFormed, AreDistinct}
-use Rattle.pc_history.proofs.FormedAfter.{IsWellFormed-after, Every-split}
-use Rattle.pc_history.proofs.Boxes.{lists-clients}
-use Rattle.pc_history.proofs.Numbers.{total-append}
-use Rattle.pc_history.proofs.Tables.{same-true, lookup-absent, others-absent, is_among-keys}
-use Rattle.pc_history.proofs.Uids.{Every-weaker}
-use Rattle.pc_history.proofs.Agreement.{after-said_by}
-use Rattle.pc_history.proofs.Counts.{listed_count-said_by}
-use Rattle.pc_history.proofs.Formed.{AreUids-messages, AreMessages-filter}
-use Rattle.pc_history.proofs.Mailboxes.{IsMailbox-mailbox_of}
+use Rattle.pc_account_history.specs.declared.kept.Kept.{Kept}
+use Rattle.pc_account_history.specs.declared.kept.Listed.{Listed}
+use Rattle.pc_account_history.specs.declared.entry.Entry.{Entry}
+use Rattle.pc_account_history.specs.declared.entry.Entry.TheVariants.{DropMailbox, ResetClient, MakeClient}
+use Rattle.pc_tables.specs.Table.{same, total, others, is_among}
+use Rattle.pc_account_history.specs.Record.{MailboxRecord, AccountRecord, mailbox_of}
+use Rattle.pc_account_history.specs.Known.{said_by, after_entry}
+use Rattle.pc_account_history.specs.Allowed.{is_allowed}
+use Rattle.pc_account_history.specs.Limits.{listed_count}
+use Rattle.pc_account_history.specs.Step.{uids_of, stamped, touched, with_message, with_flag_set, expunged, emptied, reset_for, with_client, at_mailbox, after}
+use Rattle.pc_tables.specs.Order.{AreDistinct}
+use Rattle.pc_account_history.specs.Legal.{IsMailbox, IsWellFormed}
+use Rattle.pc_tables.proofs.Lists.{Every-split, Every-weaker}
+use Rattle.pc_account_history.proofs.FormedAfter.{IsWellFormed-after}
+use Rattle.pc_account_history.proofs.Boxes.{lists-clients}
+use Rattle.pc_tables.proofs.Totals.{total-append}
+use Rattle.pc_tables.proofs.Table.{same-true, lookup-absent, others-absent, is_among-keys}
+use Rattle.pc_account_history.proofs.Agreement.{after-said_by}
+use Rattle.pc_account_history.proofs.Counts.{listed_count-said_by}
+use Rattle.pc_account_history.proofs.Formed.{AreUids-messages, AreMessages-filter}
+use Rattle.pc_account_history.proofs.Mailboxes.{IsMailbox-mailbox_of}
 use Rattle.pc_mailbox.proofs.Holds.{length-uids}
 use Rattle.pc_mailbox.specs.UpdateList.{takers_of}
 use Rattle.pc_mailbox.specs.Mailbox.{is_deleted}
 use Rattle.pc_mailbox.specs.Growth.{unlisted, unlisted_by_all, unlisted_for}
-use Rattle.pc_holdings.specs.Mailboxes.{listed_in, listed_held}
+use Rattle.pc_account_holdings.specs.Mailboxes.{listed_in, listed_held}
 use Rattle.pc_account.proofs.Touched.{Apart, lists-apart, lists-length, touched-length, stamped-length, touched-for-all, missing-deleted, missing-whole, missing-all, missing-one, missing-next}
 use Rattle.pc_account.proofs.TableSums.{sum-set_value, sum-others, sum-map_values, set_value-absent, Every-lookup, none-from}
 use Rattle.pc_account.proofs.Found.{live-found}

@@ -3,15 +3,14 @@ use Rattle.std.proofs.Common.{◌≡◌, ℕ, Bool, true, false, not, List, [], 
 use Rattle.std.specs.Prelude.{⊤}
 use Rattle.std.specs.Map.{lookup}
 use Rattle.std.specs.Map.{keys_of}
-use Rattle.pc_history.specs.Table.{same, is_among}
-use Rattle.pc_history.proofs.Tables.{is_among-keys}
-use Rattle.pc_history.specs.Record.{MailboxRecord, AccountRecord, mailbox_of, new_mailbox}
-use Rattle.pc_history.specs.Known.{said_by}
-use Rattle.pc_history.specs.Allowed.{messages}
-use Rattle.pc_history.specs.Legal.{IsMailbox, IsWellFormed}
-use Rattle.pc_history.proofs.Uids.{Every-weaker}
-use Rattle.pc_history.proofs.Mailboxes.{Every-found}
-use Rattle.pc_history.proofs.Counts.{messages-said_by}
+use Rattle.pc_tables.specs.Table.{same, is_among}
+use Rattle.pc_tables.proofs.Table.{is_among-keys, Every-found}
+use Rattle.pc_account_history.specs.Record.{MailboxRecord, AccountRecord, mailbox_of, new_mailbox}
+use Rattle.pc_account_history.specs.Known.{said_by}
+use Rattle.pc_account_history.specs.Allowed.{messages}
+use Rattle.pc_account_history.specs.Legal.{IsMailbox, IsWellFormed}
+use Rattle.pc_tables.proofs.Lists.{Every-weaker}
+use Rattle.pc_account_history.proofs.Counts.{messages-said_by}
 
 empty-else : (dropped : Option MailboxRecord) (new : MailboxRecord) → MatchOption dropped ⊤ (λ box. box.messages ≡ []) → new.messages ≡ [] → (unwrap_or dropped new).messages ≡ []
 empty-else None new h e = e

@@ -3,16 +3,16 @@ use Rattle.std.proofs.Common.{◌≡◌, ℕ, zero, suc, ◌-◌, ◌<◌, ◌�
 use Rattle.std.proofs.lemmas.List.{length-map, take-map}
 use Rattle.std.proofs.lemmas.Bool.{ne_eqb}
 use Rattle.pc_base.specs.declared.room.Room.{Room}
+use Rattle.pc_base.specs.AskFault.{Tells}
 use Rattle.pc_message.specs.declared.lists.Mail.{Mail}
-use Rattle.pc_history.specs.declared.entry.Entry.TheVariants as entry
-use Rattle.pc_history.specs.declared.limits.TheConstants.{MOST_LETTERS}
-use Rattle.pc_history.specs.Record.{AccountRecord}
-use Rattle.pc_history.specs.Known.{Known, said_by}
-use Rattle.pc_history.specs.Legal.{IsCanonical}
+use Rattle.pc_account_history.specs.declared.entry.Entry.TheVariants as entry
+use Rattle.pc_message.specs.declared.limits.TheConstants.{MOST_LETTERS}
+use Rattle.pc_account_history.specs.Record.{AccountRecord}
+use Rattle.pc_account_history.specs.Known.{Known, said_by}
+use Rattle.pc_account_history.specs.Legal.{IsCanonical}
 use Rattle.pc_account.specs.declared.wish.Wish.TheVariants as wish
 use Rattle.pc_account.specs.Plan.{last_number, pulled_mails, planned, NumbersRise}
 use Rattle.pc_account.specs.Taking.{letter_of, front_count}
-use Rattle.pc_account.specs.Answers.{Tells}
 use Rattle.pc_account.proofs.Waiting.{last-at, front-counted, front-within}
 use Rattle.pc_account.proofs.Settling.{settled-holds, settled-entry}
 

@@ -3,12 +3,12 @@ use Rattle.std.proofs.Common.{◌≡◌, ℕ, suc, ◌+◌, ◌*◌, ◌<◌, �
 use Rattle.std.specs.List.{list_all}
 use Rattle.pc_base.specs.declared.refusal.LimitWord.{LimitWord}
 use Rattle.pc_base.specs.declared.refusal.LimitWord.TheVariants.{Uids, Messages, Bytes, Changes}
-use Rattle.pc_history.specs.declared.limits.TheConstants.{MOST_UIDS, MOST_MESSAGES, MOST_WEIGHT, MOST_CHANGES}
-use Rattle.pc_history.specs.Table.{total}
-use Rattle.pc_history.specs.Known.{Known}
-use Rattle.pc_history.specs.Allowed.{messages}
-use Rattle.pc_history.specs.Limits.{weight, listed_count}
-use Rattle.pc_history.proofs.Tables.{same-refl}
+use Rattle.pc_account_history.specs.declared.limits.TheConstants.{MOST_UIDS, MOST_MESSAGES, MOST_WEIGHT, MOST_CHANGES}
+use Rattle.pc_tables.specs.Table.{total}
+use Rattle.pc_account_history.specs.Known.{Known}
+use Rattle.pc_account_history.specs.Allowed.{messages}
+use Rattle.pc_account_history.specs.Limits.{weight, listed_count}
+use Rattle.pc_tables.proofs.Table.{same-refl}
 use Rattle.pc_account.specs.Limits.{limit_where, parcel_of, weight_in, has_uids, has_places, limit_of_parcels}
 use Rattle.pc_account.proofs.Spread.{list_all-map}
 

@@ -6,21 +6,21 @@ use Rattle.std.proofs.lemmas.Bool.{and_from}
 use Rattle.pc_base.specs.declared.refusal.Refusal.{Refusal}
 use Rattle.pc_base.specs.declared.refusal.Refusal.TheVariants.{LimitReached, NoSuchMessage}
 use Rattle.pc_base.specs.declared.refusal.LimitWord.{LimitWord}
-use Rattle.pc_history.specs.declared.kept.Kept.{Kept}
-use Rattle.pc_history.specs.declared.entry.Entry.{Entry}
-use Rattle.pc_history.specs.Flags.{flag_of}
-use Rattle.pc_history.specs.Table.{same}
-use Rattle.pc_history.specs.Known.{Known}
-use Rattle.pc_history.specs.Allowed.{is_allowed, is_mailbox, is_client}
-use Rattle.pc_history.specs.Limits.{limit_passed}
-use Rattle.pc_history.proofs.Tables.{some-none, some-same}
-use Rattle.pc_account.specs.declared.wish.AskFault.{AskFault}
-use Rattle.pc_account.specs.declared.wish.AskFault.TheVariants.{Refused}
+use Rattle.pc_account_history.specs.declared.kept.Kept.{Kept}
+use Rattle.pc_account_history.specs.declared.entry.Entry.{Entry}
+use Rattle.pc_message.specs.Flags.{flag_of}
+use Rattle.pc_tables.specs.Table.{same}
+use Rattle.pc_account_history.specs.Known.{Known}
+use Rattle.pc_account_history.specs.Allowed.{is_allowed, is_mailbox, is_client}
+use Rattle.pc_account_history.specs.Limits.{limit_passed}
+use Rattle.pc_tables.proofs.Options.{some-none, some-same}
+use Rattle.pc_base.specs.declared.ask_fault.AskFault.{AskFault}
+use Rattle.pc_base.specs.declared.ask_fault.AskFault.TheVariants.{Refused}
+use Rattle.pc_base.specs.AskFault.{Tells}
 use Rattle.pc_account.specs.declared.wish.Wish.{Wish}
 use Rattle.pc_account.specs.declared.wish.Wish.TheVariants as wish
 use Rattle.pc_account.specs.Plan.{refused_where, refusal_of, holds, entry_of, within_limits, planned, IsWish}
-use Rattle.pc_holdings.specs.State.{may_follow}
-use Rattle.pc_account.specs.Answers.{Tells}
+use Rattle.pc_account_holdings.specs.State.{may_follow}
 use Rattle.pc_account.proofs.TakenAllowed.{forget-allowed}
 use Rattle.pc_account.proofs.Waiting.{front-allowed}
 

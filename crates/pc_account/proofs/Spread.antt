@@ -2,10 +2,9 @@
 use Rattle.std.proofs.Common.{◌≡◌, ℕ, ◌+◌, ◌*◌, Bool, true, false, cond, not, ◌&&◌, ◌||◌, List, [], ◌∷◌, map, length, refl, sym, ◌∙◌, ap, arith, true≢false}
 use Rattle.std.specs.List.{filter, list_all, AllByRecursion as Every}
 use Rattle.std.proofs.lemmas.Bool.{and_parts, and_from}
-use Rattle.pc_history.specs.Table.{same, is_among, total}
-use Rattle.pc_history.specs.Legal.{AreDistinct}
-use Rattle.pc_history.proofs.Numbers.{list_all-among}
-use Rattle.pc_history.proofs.Tables.{same-true}
+use Rattle.pc_tables.specs.Table.{same, is_among, total}
+use Rattle.pc_tables.specs.Order.{AreDistinct}
+use Rattle.pc_tables.proofs.Table.{list_all-among, same-true}
 
 pub total-alike : {X : Type 0} (f g : X → ℕ) (xs : List X) → ((x : X) → f x ≡ g x) → total f xs ≡ total g xs
 total-alike f g [] h = refl

@@ -1,14 +1,14 @@
 -- A state that stands for a history says what is known at its end.
 use Rattle.std.proofs.Common.{◌≡◌, suc, IsTrue, sym, ap, ◌∙◌}
-use Rattle.pc_history.specs.declared.entry.Entry.{Entry}
-use Rattle.pc_history.specs.Known.{Known, said_by}
-use Rattle.pc_history.specs.History.{History, ◌▸◌, known}
-use Rattle.pc_history.specs.Allowed.{is_allowed}
-use Rattle.pc_history.specs.Limits.{limit_passed}
-use Rattle.pc_history.specs.Step.{after}
-use Rattle.pc_history.proofs.Histories.{Stands-legal}
-use Rattle.pc_holdings.specs.State.{State, said, StandsFor, may_follow, step}
-use Rattle.pc_holdings.specs.Following.{may-parts}
+use Rattle.pc_account_history.specs.declared.entry.Entry.{Entry}
+use Rattle.pc_account_history.specs.Known.{Known, said_by}
+use Rattle.pc_account_history.specs.History.{History, ◌▸◌, known}
+use Rattle.pc_account_history.specs.Allowed.{is_allowed}
+use Rattle.pc_account_history.specs.Limits.{limit_passed}
+use Rattle.pc_account_history.specs.Step.{after}
+use Rattle.pc_account_history.proofs.Histories.{Stands-legal}
+use Rattle.pc_account_holdings.specs.State.{State, said, StandsFor, may_follow, step}
+use Rattle.pc_account_holdings.specs.Following.{may-parts}
 
 pub said_is_known : (s : State) (h : History) → StandsFor s h → said s ≡ known h
 said_is_known s h stands = (λ i. said_by (sym stands.held i) (sym stands.next i)) ∙ sym (Stands-legal h stands.legal).alike

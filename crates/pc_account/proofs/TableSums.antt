@@ -2,9 +2,10 @@
 use Rattle.std.proofs.Common.{◌≡◌, ℕ, ◌+◌, Bool, true, false, cond, not, List, [], ◌∷◌, map, Option, None, Some, is_some, refl, sym, ap, subst, arith, true≢false}
 use Rattle.std.specs.Map.{lookup, set_value, keys_of}
 use Rattle.std.specs.List.{AllByRecursion as Every}
-use Rattle.pc_history.specs.Table.{same, others, map_values, total}
-use Rattle.pc_history.specs.Legal.{AreDistinct}
-use Rattle.pc_history.proofs.Tables.{same-true, lookup-absent, others-absent, some-same, some-none}
+use Rattle.pc_tables.specs.Table.{same, others, map_values, total}
+use Rattle.pc_tables.specs.Order.{AreDistinct}
+use Rattle.pc_tables.proofs.Table.{same-true, lookup-absent, others-absent}
+use Rattle.pc_tables.proofs.Options.{some-same, some-none}
 
 module _ {X : Type 0} (f : X → ℕ) where
   abbrev summed : List (List ℕ × X) → ℕ

@@ -2,22 +2,23 @@
 use Rattle.std.proofs.Common.{◌≡◌, ℕ, zero, suc, ◌+◌, ◌<◌, ◌≤◌, ◌==◌, Bool, true, false, cond, not, ◌&&◌, ◌||◌, nat_lt, nat_le, unwrap_or, lt-ltb, ◌⊎◌, inl, inr, List, [], ◌∷◌, ◌++◌, length, fold, take, insert, slice_get, get_or, Option, None, Some, is_some, option_map, refl, sym, ◌∙◌, ap, subst, arith, true≢false, append_assoc, append-nil}
 use Rattle.std.specs.List.{filter, find, list_any, position, prefix_len, position_or_len, AllByRecursion as Every}
 use Rattle.std.proofs.lemmas.List.{take_more}
-use Rattle.pc_history.proofs.Tables.{some-from_map_or}
+use Rattle.pc_tables.proofs.Options.{some-from_map_or}
 use Rattle.std.specs.Option.{option_map_or}
 use Rattle.std.specs.Cmp.{nat_eq_equiv}
 use Rattle.std.proofs.lemmas.Bool.{ne_eqb, eqb-true, eq-eqb, cases_eq, cases_order, and_parts}
-use Rattle.pc_history.specs.declared.kept.Listed.{Listed}
-use Rattle.pc_history.specs.Table.{same, numbers}
-use Rattle.pc_history.specs.Record.{MailboxRecord, AccountRecord, list_of, stamp_at}
-use Rattle.pc_history.specs.Legal.{IsChange, AreListsOf, IsMailbox, IsWellFormed}
+use Rattle.pc_account_history.specs.declared.kept.Listed.{Listed}
+use Rattle.pc_tables.specs.Table.{same, numbers}
+use Rattle.pc_account_history.specs.Record.{MailboxRecord, AccountRecord, list_of, stamp_at}
+use Rattle.pc_account_history.specs.Legal.{IsChange, AreListsOf, IsMailbox, IsWellFormed}
 use Rattle.std.specs.Map.{lookup}
-use Rattle.pc_history.specs.Known.{Known, said_by}
+use Rattle.pc_account_history.specs.Known.{Known, said_by}
 use Rattle.pc_account.proofs.TableSums.{Every-lookup}
 use Rattle.pc_account.proofs.Changed.{box-formed}
 use Rattle.pc_account.proofs.Found.{live-found}
-use Rattle.pc_history.proofs.Uids.{filter-agree, filter-false, Every-numbers, Every-filter, Every-from, Every-weaker}
+use Rattle.pc_tables.proofs.Lists.{filter-agree, filter-false, Every-filter, Every-from, Every-weaker}
+use Rattle.pc_tables.proofs.Numbers.{Every-numbers}
 use Rattle.pc_account.specs.Plan.{is_taken, inserted, with_taken, all_taken, taken_uids, is_shown}
-use Rattle.pc_history.specs.Allowed.{rises_from}
+use Rattle.pc_tables.specs.Order.{rises_from}
 
 -- ---- a uid among those that pass a test
 

@@ -2,12 +2,12 @@
 use Rattle.std.proofs.Common.{◌≡◌, ℕ, zero, suc, ◌==◌, ◌&&◌, Bool, true, false, cond, nat_lt, nat_le, List, [], ◌∷◌, length, is_some, refl, arith, lt-ltb, true≢false}
 use Rattle.std.specs.List.{filter, list_all, list_any}
 use Rattle.std.proofs.lemmas.Bool.{and_parts, and_from}
-use Rattle.pc_history.specs.declared.kept.Listed.{Listed}
-use Rattle.pc_history.specs.declared.entry.Entry.TheVariants.{Forget}
-use Rattle.pc_history.specs.Table.{numbers}
-use Rattle.pc_history.proofs.Tables.{some-from_map_or}
-use Rattle.pc_history.specs.Known.{Known}
-use Rattle.pc_history.specs.Allowed.{is_allowed, is_mailbox, is_client}
+use Rattle.pc_account_history.specs.declared.kept.Listed.{Listed}
+use Rattle.pc_account_history.specs.declared.entry.Entry.TheVariants.{Forget}
+use Rattle.pc_tables.specs.Table.{numbers}
+use Rattle.pc_tables.proofs.Options.{some-from_map_or}
+use Rattle.pc_account_history.specs.Known.{Known}
+use Rattle.pc_account_history.specs.Allowed.{is_allowed, is_mailbox, is_client}
 use Rattle.pc_account.specs.Plan.{is_shown, taken_uids}
 use Rattle.pc_account.proofs.Taken.{taken-rise}
 

@@ -9,17 +9,19 @@ use Rattle.pc_base.specs.declared.refusal.Refusal.TheVariants.{NoSuchMessage}
 use Rattle.pc_message.specs.declared.descriptor.Change.TheVariants.{Present, Expunged}
 use Rattle.pc_message.specs.declared.descriptor.Descriptor.{Descriptor}
 use Rattle.pc_message.specs.Descriptor.{descriptor_of}
-use Rattle.pc_history.specs.declared.kept.Kept.{Kept}
-use Rattle.pc_history.specs.Table.{same, is_among}
-use Rattle.pc_history.specs.Record.{MailboxRecord, AccountRecord, kept_at}
-use Rattle.pc_history.specs.Known.{said_by}
-use Rattle.pc_history.specs.Legal.{IsWellFormed}
-use Rattle.pc_history.proofs.Tables.{is_among-keys, some-same, some-none}
-use Rattle.pc_history.proofs.Within.{found-passes}
-use Rattle.pc_history.proofs.FormedAfter.{Every-from_lookups}
+use Rattle.pc_account_history.specs.declared.kept.Kept.{Kept}
+use Rattle.pc_tables.specs.Table.{same, is_among}
+use Rattle.pc_account_history.specs.Record.{MailboxRecord, AccountRecord, kept_at}
+use Rattle.pc_account_history.specs.Known.{said_by}
+use Rattle.pc_account_history.specs.Legal.{IsWellFormed}
+use Rattle.pc_tables.proofs.Table.{is_among-keys}
+use Rattle.pc_tables.proofs.Options.{some-same, some-none}
+use Rattle.pc_tables.proofs.Lists.{found-passes}
+use Rattle.pc_tables.proofs.Distinct.{Every-from_lookups}
 use Rattle.pc_account.specs.declared.answer.Answer.TheVariants as answer
-use Rattle.pc_account.specs.declared.wish.AskFault.TheVariants.{Refused}
-use Rattle.pc_account.specs.Answers.{row_of, row_in, told_at, Tells, IsPlain}
+use Rattle.pc_base.specs.declared.ask_fault.AskFault.TheVariants.{Refused}
+use Rattle.pc_base.specs.AskFault.{Tells}
+use Rattle.pc_account.specs.Answers.{row_of, row_in, told_at, IsPlain}
 use Rattle.pc_account.proofs.Found.{live-found, live-messages}
 use Rattle.pc_account.proofs.Changed.{distinct-front}
 

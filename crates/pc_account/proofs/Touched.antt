@@ -2,12 +2,13 @@
 use Rattle.std.proofs.Common.{◌≡◌, ℕ, suc, ◌+◌, ◌<◌, ◌≤◌, ◌==◌, Bool, true, false, cond, not, ◌&&◌, ◌||◌, List, [], ◌∷◌, length, refl, sym, ◌∙◌, ap, subst, arith, length-append}
 use Rattle.std.specs.List.{filter, AllByRecursion as Every}
 use Rattle.std.proofs.lemmas.Bool.{ne_eqb, eqb-true, eq-eqb}
-use Rattle.pc_history.specs.declared.kept.Kept.{Kept}
-use Rattle.pc_history.specs.declared.kept.Listed.{Listed}
-use Rattle.pc_history.specs.Table.{has_number, map_values, total}
-use Rattle.pc_history.specs.Step.{stamped, without, touched, uids_of}
-use Rattle.pc_history.specs.Legal.{Ordered, HasOtherUid, AreListsOf, IsChange}
-use Rattle.pc_history.proofs.Numbers.{length-filter-le}
+use Rattle.pc_account_history.specs.declared.kept.Kept.{Kept}
+use Rattle.pc_account_history.specs.declared.kept.Listed.{Listed}
+use Rattle.pc_tables.specs.Table.{has_number, map_values, total}
+use Rattle.pc_account_history.specs.Step.{stamped, without, touched, uids_of}
+use Rattle.pc_tables.specs.Order.{Ordered}
+use Rattle.pc_account_history.specs.Legal.{HasOtherUid, AreListsOf, IsChange}
+use Rattle.pc_tables.proofs.Lists.{length-filter-le}
 use Rattle.pc_mailbox.specs.UpdateList.{is_on, takers_of, Rise}
 use Rattle.pc_mailbox.specs.Mailbox.{is_deleted}
 use Rattle.pc_mailbox.specs.Growth.{unlisted, unlisted_by_all}

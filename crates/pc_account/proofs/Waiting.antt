@@ -6,12 +6,12 @@ use Rattle.std.proofs.lemmas.Bool.{and_parts, and_from}
 use Rattle.pc_base.specs.declared.room.Room.{Room}
 use Rattle.pc_base.specs.declared.refusal.LimitWord.{LimitWord}
 use Rattle.pc_message.specs.declared.lists.Mail.{Mail}
-use Rattle.pc_history.specs.declared.limits.TheConstants.{MOST_LETTERS, LAST_MAIL}
-use Rattle.pc_history.specs.Record.{AccountRecord}
-use Rattle.pc_history.specs.Known.{Known, said_by}
-use Rattle.pc_history.specs.Allowed.{is_allowed, is_mailbox}
-use Rattle.pc_history.specs.Limits.{limit_passed}
-use Rattle.pc_history.specs.Legal.{IsCanonical}
+use Rattle.pc_message.specs.declared.limits.TheConstants.{MOST_LETTERS, LAST_MAIL}
+use Rattle.pc_account_history.specs.Record.{AccountRecord}
+use Rattle.pc_account_history.specs.Known.{Known, said_by}
+use Rattle.pc_account_history.specs.Allowed.{is_allowed, is_mailbox}
+use Rattle.pc_account_history.specs.Limits.{limit_passed}
+use Rattle.pc_account_history.specs.Legal.{IsCanonical}
 use Rattle.pc_account.specs.Limits.{parcel_of, limit_of_parcels}
 use Rattle.pc_account.specs.Plan.{target_of, last_number, pull_of, pull_bytes, can_pull, longest_front, NumbersRise}
 use Rattle.pc_account.specs.Taking.{letter_of, bytes_of_letter, can_come, front_count}

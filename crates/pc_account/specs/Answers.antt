@@ -6,12 +6,12 @@ use Rattle.pc_base.specs.declared.refusal.Refusal.{Refusal}
 use Rattle.pc_base.specs.declared.refusal.Refusal.TheVariants.{NoSuchClient, NoSuchMailbox, NoSuchMessage}
 use Rattle.pc_message.specs.declared.descriptor.Change.{Change}
 use Rattle.pc_message.specs.declared.descriptor.Change.TheVariants.{Present, Expunged}
-use Rattle.pc_history.specs.declared.kept.Kept.{Kept}
-use Rattle.pc_history.specs.declared.kept.Listed.{Listed}
-use Rattle.pc_history.specs.Record.{MailboxRecord, kept_at}
-use Rattle.pc_history.specs.Known.{Known}
-use Rattle.pc_history.specs.Allowed.{is_mailbox, is_client, messages}
-use Rattle.pc_history.specs.Answers.{descriptor_at, changed, first_changes}
+use Rattle.pc_account_history.specs.declared.kept.Kept.{Kept}
+use Rattle.pc_account_history.specs.declared.kept.Listed.{Listed}
+use Rattle.pc_account_history.specs.Record.{MailboxRecord, kept_at}
+use Rattle.pc_account_history.specs.Known.{Known}
+use Rattle.pc_account_history.specs.Allowed.{is_mailbox, is_client, messages}
+use Rattle.pc_account_history.specs.Answers.{descriptor_at, changed, first_changes}
 use Rattle.pc_account.specs.declared.answer.Question.{Question}
 use Rattle.pc_account.specs.declared.answer.Question.TheVariants as question
 use Rattle.pc_account.specs.declared.answer.Answer.{Answer}
@@ -19,8 +19,6 @@ use Rattle.pc_account.specs.declared.answer.Answer.TheVariants as answer
 use Rattle.pc_account.specs.declared.answer.ClientRow.{ClientRow}
 use Rattle.pc_account.specs.declared.answer.MailboxRow.{MailboxRow}
 use Rattle.pc_account.specs.declared.answer.SubscriptionRow.{SubscriptionRow}
-use Rattle.pc_account.specs.declared.wish.AskFault.{AskFault}
-use Rattle.pc_account.specs.declared.wish.AskFault.TheVariants.{Refused, Memory}
 
 -- a mailbox as a list shows it
 abbrev pub row_of : Known → List ℕ → MailboxRow
@@ -61,20 +59,6 @@ answered k (question.Descriptors mailbox low high) = in_mailbox k mailbox (Ok (a
 answered k (question.Changed client mailbox count) = if is_client k client then in_mailbox k mailbox (Ok (answer.Changed (changed k client mailbox count) (first_changes k client mailbox count))) else Err NoSuchClient
 answered k (question.Letter mailbox uid) = in_mailbox k mailbox (option_map_or (λ (kept : Kept). Ok (answer.Letter kept.message)) (k.kept mailbox uid) (Err NoSuchMessage))
 answered k question.Subscriptions = Ok (answer.Subscriptions (map subscription_row k.subscriptions))
-
--- an outcome as it is told: itself, or want of memory
-abbrev pub Tells : {X : Type 0} → Result X Refusal → Result X AskFault → Type 0
-Tells outcome (Err Memory) = ⊤
-Tells (Ok x) (Ok told) = told ≡ x
-Tells (Ok x) (Err (Refused refusal)) = ⊥
-Tells (Err refusal) (Ok told) = ⊥
-Tells (Err refusal) (Err (Refused told)) = told ≡ refusal
-
--- memory isn't wanted
-abbrev pub IsNoMemory : {X : Type 0} → Result X AskFault → Type 0
-IsNoMemory (Ok told) = ⊤
-IsNoMemory (Err Memory) = ⊥
-IsNoMemory (Err (Refused refusal)) = ⊤
 
 -- an outcome that is told without memory: a plain yes, or a refusal
 abbrev pub IsPlain : Result Answer Refusal → Type 0

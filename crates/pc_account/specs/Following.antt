@@ -1,19 +1,19 @@
 -- What holds of an entry that a store accepts.
 use Rattle.std.proofs.Common.{◌≡◌, ◌<◌, ◌≤◌, true, length, arith}
 use Rattle.std.proofs.lemmas.Bool.{and_parts}
-use Rattle.pc_history.specs.declared.entry.Entry.{Entry}
-use Rattle.pc_history.specs.declared.entry.Entry.TheVariants.{MakeMailbox, Forget}
-use Rattle.pc_history.specs.declared.limits.TheConstants.{MOST_CHANGES}
-use Rattle.pc_history.specs.Allowed.{is_allowed}
-use Rattle.pc_spelling.specs.Spelling.{spelled_entry}
-use Rattle.pc_spelling.specs.EntryForm.{entry_fits}
-use Rattle.pc_spelling.specs.Laws.{forgotten}
-use Rattle.pc_spelling.proofs.EntryLaws.{entry-is-short}
-use Rattle.pc_spelling.proofs.ForgetSize.{forget_few}
-use Rattle.pc_spelling.proofs.FitsAfter.{step_fits}
-use Rattle.pc_holdings.specs.State.{State, said, may_follow, step}
-use Rattle.pc_holdings.specs.Following.{may-parts, canonical-after}
-use Rattle.pc_records.specs.Legal.{IsLegalState, accepts}
+use Rattle.pc_account_history.specs.declared.entry.Entry.{Entry}
+use Rattle.pc_account_history.specs.declared.entry.Entry.TheVariants.{MakeMailbox, Forget}
+use Rattle.pc_account_history.specs.declared.limits.TheConstants.{MOST_CHANGES}
+use Rattle.pc_account_history.specs.Allowed.{is_allowed}
+use Rattle.pc_account_spelling.specs.Spelling.{spelled_entry}
+use Rattle.pc_account_spelling.specs.EntryForm.{entry_fits}
+use Rattle.pc_account_spelling.specs.Laws.{forgotten}
+use Rattle.pc_account_spelling.proofs.EntryLaws.{entry-is-short}
+use Rattle.pc_account_spelling.proofs.ForgetSize.{forget_few}
+use Rattle.pc_account_spelling.proofs.FitsAfter.{step_fits}
+use Rattle.pc_account_holdings.specs.State.{State, said, may_follow, step}
+use Rattle.pc_account_holdings.specs.Following.{may-parts, canonical-after}
+use Rattle.pc_account_records.specs.Legal.{IsLegalState, accepts}
 
 pub accepts-parts : (state : State) (entry : Entry) → accepts state entry ≡ true → (may_follow (said state) entry ≡ true) × (entry_fits entry ≡ true)
 accepts-parts state entry accepted = and_parts (may_follow (said state) entry) (entry_fits entry) accepted

@@ -1,11 +1,11 @@
 -- What a store relies on of every account.
 use Rattle.std.specs.Prelude.{◌≡◌, ℕ, ◌^◌, ◌<◌, ◌≤◌, true, length}
-use Rattle.pc_history.specs.declared.entry.Entry.{Entry}
-use Rattle.pc_spelling.specs.Spelling.{spelled_entry, spelled_record}
-use Rattle.pc_spelling.specs.RecordForm.{IsRecordFault}
-use Rattle.pc_holdings.specs.State.{State, new_state, step}
-use Rattle.pc_records.specs.Legal.{IsLegalState, IsCanonicalState, accepts}
-use Rattle.pc_records.specs.Numbered.{suits, numbered}
+use Rattle.pc_account_history.specs.declared.entry.Entry.{Entry}
+use Rattle.pc_account_spelling.specs.Spelling.{spelled_entry, spelled_record}
+use Rattle.pc_account_spelling.specs.RecordForm.{IsRecordFault}
+use Rattle.pc_account_holdings.specs.State.{State, new_state, step}
+use Rattle.pc_account_records.specs.Legal.{IsLegalState, IsCanonicalState, accepts}
+use Rattle.pc_account_records.specs.Numbered.{suits, numbered}
 
 -- a state that got a number that suits it is legal
 abbrev pub NumberedIsLegal : Type 0

@@ -4,12 +4,12 @@ use Rattle.std.specs.List.{filter, list_all}
 use Rattle.pc_base.specs.declared.refusal.LimitWord.{LimitWord}
 use Rattle.pc_base.specs.declared.refusal.LimitWord.TheVariants.{Uids, Messages, Bytes, Changes}
 use Rattle.pc_message.specs.Message.{size_of}
-use Rattle.pc_history.specs.declared.limits.TheConstants.{MOST_UIDS, MOST_MESSAGES, MOST_WEIGHT, MOST_CHANGES}
-use Rattle.pc_history.specs.Table.{same, total}
-use Rattle.pc_history.specs.Record.{MailboxRecord}
-use Rattle.pc_history.specs.Known.{Known}
-use Rattle.pc_history.specs.Allowed.{messages}
-use Rattle.pc_history.specs.Limits.{weight, listed_count}
+use Rattle.pc_account_history.specs.declared.limits.TheConstants.{MOST_UIDS, MOST_MESSAGES, MOST_WEIGHT, MOST_CHANGES}
+use Rattle.pc_tables.specs.Table.{same, total}
+use Rattle.pc_account_history.specs.Record.{MailboxRecord}
+use Rattle.pc_account_history.specs.Known.{Known}
+use Rattle.pc_account_history.specs.Allowed.{messages}
+use Rattle.pc_account_history.specs.Limits.{weight, listed_count}
 use Rattle.pc_mailbox.specs.Growth.{unlisted_for}
 
 -- the limit where it is passed, and else what the others come to

@@ -1,10 +1,10 @@
 -- Tests on what is looked up in an account.
 use Rattle.std.specs.Prelude.{ℕ, ◌==◌, Bool, not, List, if◌then◌else◌}
 use Rattle.std.specs.List.{list_all}
-use Rattle.pc_history.specs.declared.kept.Kept.{Kept}
-use Rattle.pc_history.specs.Flags.{flag_of}
-use Rattle.pc_history.specs.Known.{Known}
-use Rattle.pc_history.specs.Allowed.{is_mailbox}
+use Rattle.pc_account_history.specs.declared.kept.Kept.{Kept}
+use Rattle.pc_message.specs.Flags.{flag_of}
+use Rattle.pc_account_history.specs.Known.{Known}
+use Rattle.pc_account_history.specs.Allowed.{is_mailbox}
 
 -- the mark is this uid
 abbrev pub is_set : ℕ → ℕ → Bool

@@ -6,19 +6,20 @@ use Rattle.std.specs.Map.{lookup}
 use Rattle.pc_base.specs.declared.refusal.Refusal.{Refusal}
 use Rattle.pc_base.specs.declared.refusal.Refusal.TheVariants.{NoSuchClient, NoSuchMailbox, MailboxExists, NoSuchMessage, LimitReached, NotSubscribed, AlreadySubscribed, ReadOnly, ClientExists}
 use Rattle.pc_base.specs.declared.room.Room.{Room}
+use Rattle.pc_base.specs.Name.{inbox}
 use Rattle.pc_message.specs.declared.lists.Mail.{Mail}
 use Rattle.pc_message.specs.Message.{size_of}
-use Rattle.pc_history.specs.declared.kept.Kept.{Kept}
-use Rattle.pc_history.specs.declared.kept.Listed.{Listed}
-use Rattle.pc_history.specs.declared.entry.Entry.{Entry}
-use Rattle.pc_history.specs.declared.entry.Entry.TheVariants as entry
-use Rattle.pc_history.specs.declared.limits.TheConstants.{MOST_LETTERS, LAST_MAIL}
-use Rattle.pc_history.specs.Record.{MailboxRecord, list_of, stamp_at}
-use Rattle.pc_history.specs.Flags.{flag_of}
-use Rattle.pc_history.specs.Table.{same, numbers, total}
-use Rattle.pc_history.specs.Known.{Known}
-use Rattle.pc_history.specs.Allowed.{inbox, is_mailbox, is_client, is_subscribed, messages}
-use Rattle.pc_history.specs.Limits.{limit_passed}
+use Rattle.pc_account_history.specs.declared.kept.Kept.{Kept}
+use Rattle.pc_account_history.specs.declared.kept.Listed.{Listed}
+use Rattle.pc_account_history.specs.declared.entry.Entry.{Entry}
+use Rattle.pc_account_history.specs.declared.entry.Entry.TheVariants as entry
+use Rattle.pc_message.specs.declared.limits.TheConstants.{MOST_LETTERS, LAST_MAIL}
+use Rattle.pc_account_history.specs.Record.{MailboxRecord, list_of, stamp_at}
+use Rattle.pc_message.specs.Flags.{flag_of}
+use Rattle.pc_tables.specs.Table.{same, numbers, total}
+use Rattle.pc_account_history.specs.Known.{Known}
+use Rattle.pc_account_history.specs.Allowed.{is_mailbox, is_client, is_subscribed, messages}
+use Rattle.pc_account_history.specs.Limits.{limit_passed}
 use Rattle.pc_account.specs.declared.wish.Wish.{Wish}
 use Rattle.pc_account.specs.declared.wish.Wish.TheVariants as wish
 

@@ -3,8 +3,8 @@ use Rattle.std.specs.Prelude.{ℕ, zero, suc, ◌+◌, Bool, ◌&&◌, nat_lt, n
 use Rattle.pc_base.specs.declared.room.Room.{Room}
 use Rattle.pc_message.specs.declared.lists.Mail.{Mail}
 use Rattle.pc_message.specs.Message.{size_of}
-use Rattle.pc_history.specs.Table.{total}
-use Rattle.pc_history.specs.Known.{Known}
+use Rattle.pc_tables.specs.Table.{total}
+use Rattle.pc_account_history.specs.Known.{Known}
 use Rattle.pc_account.specs.LookUps.{are_live}
 use Rattle.pc_account.specs.Limits.{parcel_of, limit_of_parcels}
 use Rattle.pc_account.specs.Plan.{target_of}

@@ -4,18 +4,18 @@ ghost use Rattle.std.specs.Prelude.{◌≡◌, ◌<◌, ◌≤◌, ◌-◌, ◌^
 ghost use Rattle.std.specs.Option.{option_map_or};
 ghost use Rattle.std.specs.Map.{lookup};
 ghost use Rattle.pc_base.specs.Machine.{FaultAt};
-ghost use Rattle.pc_history.specs.Table.{same};
-ghost use Rattle.pc_history.specs.History.{History, ◌▸◌, known, birth, next};
-ghost use Rattle.pc_spelling.specs.Spelling.{spelled_record};
-ghost use Rattle.pc_spelling.specs.RecordForm.{IsRecordFault};
-ghost use Rattle.pc_holdings.specs.State.{new_state, said, StandsFor, may_follow, step};
-ghost use Rattle.pc_records.specs.Legal.{IsCanonicalState};
-ghost use Rattle.pc_records.specs.Numbered.{suits, numbered};
+ghost use Rattle.pc_tables.specs.Table.{same};
+ghost use Rattle.pc_account_history.specs.History.{History, ◌▸◌, known, birth, next};
+ghost use Rattle.pc_account_spelling.specs.Spelling.{spelled_record};
+ghost use Rattle.pc_account_spelling.specs.RecordForm.{IsRecordFault};
+ghost use Rattle.pc_account_holdings.specs.State.{new_state, said, StandsFor, may_follow, step};
+ghost use Rattle.pc_account_records.specs.Legal.{IsCanonicalState};
+ghost use Rattle.pc_account_records.specs.Numbered.{suits, numbered};
 
+use pc_account_history::Entry;
+use pc_account_holdings::Holdings;
+use pc_account_records::{load, save, suits};
 use pc_base::{Bytes, Memory, Name, ReadFault};
-use pc_history::Entry;
-use pc_holdings::Holdings;
-use pc_records::{load, save, suits};
 use std::alloc::Global;
 use std::marker::Model;
 
@@ -27,8 +27,8 @@ pub struct Account {
 
 impl Model for Account {
     ghost use Rattle.std.specs.Prelude.{◌≤◌, ◌^◌};
-    ghost use Rattle.pc_history.specs.Legal.{IsCanonical};
-    ghost use Rattle.pc_holdings.specs.State.{State};
+    ghost use Rattle.pc_account_history.specs.Legal.{IsCanonical};
+    ghost use Rattle.pc_account_holdings.specs.State.{State};
 
     ghost Value = { State };
 

@@ -4,21 +4,23 @@ ghost use Rattle.std.specs.Prelude.{◌≡◌, not, ◌&&◌, nat_lt, nat_le, tr
 ghost use Rattle.std.specs.Option.{option_map_or};
 ghost use Rattle.std.specs.List.{list_any, list_all};
 ghost use Rattle.std.specs.Map.{lookup};
-ghost use Rattle.pc_history.specs.declared.kept.Kept.{Kept};
-ghost use Rattle.pc_history.specs.declared.entry.Entry.TheVariants as entry;
-ghost use Rattle.pc_history.specs.Flags.{flag_of};
-ghost use Rattle.pc_history.specs.Table.{same};
-ghost use Rattle.pc_history.specs.Record.{list_of, stamp_at};
-ghost use Rattle.pc_history.specs.Allowed.{inbox, is_mailbox, is_client, is_subscribed, messages, rises_from, is_allowed};
-ghost use Rattle.pc_history.specs.Legal.{IsCanonical};
-ghost use Rattle.pc_holdings.specs.State.{said};
+ghost use Rattle.pc_base.specs.Name.{inbox};
+ghost use Rattle.pc_account_history.specs.declared.kept.Kept.{Kept};
+ghost use Rattle.pc_account_history.specs.declared.entry.Entry.TheVariants as entry;
+ghost use Rattle.pc_message.specs.Flags.{flag_of};
+ghost use Rattle.pc_tables.specs.Table.{same};
+ghost use Rattle.pc_account_history.specs.Record.{list_of, stamp_at};
+ghost use Rattle.pc_tables.specs.Order.{rises_from};
+ghost use Rattle.pc_account_history.specs.Allowed.{is_mailbox, is_client, is_subscribed, messages, is_allowed};
+ghost use Rattle.pc_account_history.specs.Legal.{IsCanonical};
+ghost use Rattle.pc_account_holdings.specs.State.{said};
 ghost use Rattle.pc_account.specs.LookUps.{is_set, has_flag, are_live};
 
+use pc_account_history::Entry;
+use pc_account_holdings::Holdings;
 use pc_base::Name;
-use pc_history::{Entry, LAST_MAIL, MOST_LETTERS, is_on};
-use pc_holdings::Holdings;
 use pc_mailbox::Mailbox;
-use pc_message::Message;
+use pc_message::{LAST_MAIL, MOST_LETTERS, Message, is_on};
 
 /// Whether the entry is allowed. Its limits aren't tried.
 pub fn is_allowed(holdings: &Holdings, entry: &Entry) -> bool

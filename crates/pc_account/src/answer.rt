@@ -1,12 +1,8 @@
 //! Questions to an account, and their answers.
 
-ghost use Rattle.std.specs.Prelude.{◌≡◌, [], ◌∷◌, ◌++◌, IfOk, OnOk, OnErr};
-
-use pc_base::{Memory, Name};
+use pc_base::{List, Name};
 use pc_mailbox::Shown;
 use pc_message::{Changes, Message};
-use std::alloc::Global;
-use std::marker::Model;
 
 /// What an account is asked.
 #[derive(Clone, Copy)]
@@ -67,130 +63,13 @@ pub struct SubscriptionRow {
 }
 
 /// Clients as a list shows them.
-#[derive(Drop)]
-pub struct ClientRows {
-    rows: Vec<ClientRow>,
-}
-
-impl Model for ClientRows {
-    ghost use Rattle.std.specs.Prelude.{List};
-    ghost use Rattle.pc_account.specs.declared.answer.ClientRow.{ClientRow};
-
-    ghost Value = { List ClientRow };
-
-    ghost view = { λ list. list.rows.items };
-}
-
-impl ClientRows {
-    /// An empty list.
-    pub fn new(alloc: Global) -> ClientRows
-        ensures { result ≡ [] }
-    {
-        ClientRows {
-            rows: Vec::new(alloc),
-        }
-    }
-
-    /// Puts one more at the end. After `Err` nothing has changed.
-    pub fn push(&mut self, row: ClientRow) -> Result<(), Memory>
-        ensures ok { OnOk result (self.new ≡ self.old ++ row ∷ []) }
-        ensures err { OnErr result (self.new ≡ self.old) }
-    {
-        self.rows.push(row)?;
-        Ok(())
-    }
-
-    /// The rows, in order.
-    pub fn as_slice(&self) -> &[ClientRow]
-        ensures { result.now ≡ self.now }
-    {
-        self.rows.as_slice()
-    }
-}
+pub type ClientRows = List<ClientRow>;
 
 /// Mailboxes as a list shows them.
-#[derive(Drop)]
-pub struct MailboxRows {
-    rows: Vec<MailboxRow>,
-}
-
-impl Model for MailboxRows {
-    ghost use Rattle.std.specs.Prelude.{List};
-    ghost use Rattle.pc_account.specs.declared.answer.MailboxRow.{MailboxRow};
-
-    ghost Value = { List MailboxRow };
-
-    ghost view = { λ list. list.rows.items };
-}
-
-impl MailboxRows {
-    /// An empty list, with room for so many.
-    pub fn with_capacity(alloc: Global, capacity: usize) -> Result<MailboxRows, Memory>
-        ensures { IfOk result (λ rows. rows ≡ []) }
-    {
-        Ok(MailboxRows {
-            rows: Vec::with_capacity(alloc, capacity)?,
-        })
-    }
-
-    /// Puts one more at the end. After `Err` nothing has changed.
-    pub fn push(&mut self, row: MailboxRow) -> Result<(), Memory>
-        ensures ok { OnOk result (self.new ≡ self.old ++ row ∷ []) }
-        ensures err { OnErr result (self.new ≡ self.old) }
-    {
-        self.rows.push(row)?;
-        Ok(())
-    }
-
-    /// The rows, in order.
-    pub fn as_slice(&self) -> &[MailboxRow]
-        ensures { result.now ≡ self.now }
-    {
-        self.rows.as_slice()
-    }
-}
+pub type MailboxRows = List<MailboxRow>;
 
 /// Subscriptions as a list shows them.
-#[derive(Drop)]
-pub struct SubscriptionRows {
-    rows: Vec<SubscriptionRow>,
-}
-
-impl Model for SubscriptionRows {
-    ghost use Rattle.std.specs.Prelude.{List};
-    ghost use Rattle.pc_account.specs.declared.answer.SubscriptionRow.{SubscriptionRow};
-
-    ghost Value = { List SubscriptionRow };
-
-    ghost view = { λ list. list.rows.items };
-}
-
-impl SubscriptionRows {
-    /// An empty list.
-    pub fn new(alloc: Global) -> SubscriptionRows
-        ensures { result ≡ [] }
-    {
-        SubscriptionRows {
-            rows: Vec::new(alloc),
-        }
-    }
-
-    /// Puts one more at the end. After `Err` nothing has changed.
-    pub fn push(&mut self, row: SubscriptionRow) -> Result<(), Memory>
-        ensures ok { OnOk result (self.new ≡ self.old ++ row ∷ []) }
-        ensures err { OnErr result (self.new ≡ self.old) }
-    {
-        self.rows.push(row)?;
-        Ok(())
-    }
-
-    /// The rows, in order.
-    pub fn as_slice(&self) -> &[SubscriptionRow]
-        ensures { result.now ≡ self.now }
-    {
-        self.rows.as_slice()
-    }
-}
+pub type SubscriptionRows = List<SubscriptionRow>;
 
 /// What an account answers.
 #[derive(Drop)]

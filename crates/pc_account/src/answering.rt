@@ -1,10 +1,11 @@
 //! What an account answers to questions.
 
 ghost use Rattle.std.specs.Prelude.{◌≡◌, map, IfOk};
-ghost use Rattle.pc_history.specs.History.{History, known};
-ghost use Rattle.pc_history.specs.Legal.{IsCanonical};
-ghost use Rattle.pc_holdings.specs.State.{said, StandsFor};
-ghost use Rattle.pc_account.specs.Answers.{answered, client_row, row_in, subscription_row, told_at, told_of, Tells, IsPlain, IsNoMemory};
+ghost use Rattle.pc_base.specs.AskFault.{Tells, IsNoMemory};
+ghost use Rattle.pc_account_history.specs.History.{History, known};
+ghost use Rattle.pc_account_history.specs.Legal.{IsCanonical};
+ghost use Rattle.pc_account_holdings.specs.State.{said, StandsFor};
+ghost use Rattle.pc_account.specs.Answers.{answered, client_row, row_in, subscription_row, told_at, told_of, IsPlain};
 ghost use Rattle.pc_account.specs.declared.answer.Question.TheVariants as question;
 
 use crate::account::Account;
@@ -13,9 +14,8 @@ use crate::answer::{
     Answer, ClientRow, ClientRows, MailboxRow, MailboxRows, Question, SubscriptionRow,
     SubscriptionRows,
 };
-use crate::wish::AskFault;
-use pc_base::{Memory, Name, Refusal};
-use pc_holdings::Holdings;
+use pc_account_holdings::Holdings;
+use pc_base::{AskFault, Memory, Name, Refusal};
 use pc_mailbox::{Mailbox, Shown};
 use pc_message::{Change, Changes, describe};
 use std::alloc::Global;

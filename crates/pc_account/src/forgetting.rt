@@ -3,18 +3,17 @@
 ghost use Rattle.std.specs.Prelude.{◌≡◌, ◌≤◌, ◌==◌, nat_le, false, length, slice_get, ◌<◌, IsTrue, OnOk, IfOk, IfSome};
 ghost use Rattle.std.specs.List.{position, position_or_len};
 ghost use Rattle.std.specs.Option.{option_map_or};
-ghost use Rattle.pc_history.specs.Legal.{IsCanonical};
-ghost use Rattle.pc_history.specs.Allowed.{is_mailbox};
-ghost use Rattle.pc_holdings.specs.State.{said};
+ghost use Rattle.pc_base.specs.AskFault.{Tells};
+ghost use Rattle.pc_account_history.specs.Legal.{IsCanonical};
+ghost use Rattle.pc_account_history.specs.Allowed.{is_mailbox};
+ghost use Rattle.pc_account_holdings.specs.State.{said};
 ghost use Rattle.pc_account.specs.Plan.{planned, taken_uids, all_taken, with_taken, is_taken, inserted};
-ghost use Rattle.pc_account.specs.Answers.{Tells};
 ghost use Rattle.pc_account.specs.declared.wish.Wish.TheVariants as wish;
 
 use crate::planning::refusal_of_list;
-use crate::wish::AskFault;
-use pc_base::{Memory, Name, Uids};
-use pc_history::{Entry, Listed};
-use pc_holdings::Holdings;
+use pc_account_history::{Entry, Listed};
+use pc_account_holdings::Holdings;
+use pc_base::{AskFault, Memory, Name, Uids};
 use pc_mailbox::Mailbox;
 use std::alloc::Global;
 

@@ -20,9 +20,9 @@ pub use answer::{
     Answer, ClientRow, ClientRows, MailboxRow, MailboxRows, Question, SubscriptionRow,
     SubscriptionRows,
 };
-pub use pc_history::Entry;
+pub use pc_account_history::Entry;
 pub use secret::digest;
-pub use wish::{AskFault, Wish};
+pub use wish::Wish;
 
 #[cfg(test)]
 mod tests;

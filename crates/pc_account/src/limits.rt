@@ -2,19 +2,19 @@
 
 ghost use Rattle.std.specs.Prelude.{◌≡◌, ◌+◌, ◌*◌, ◌≤◌, nat_lt, true, is_some, length, map, Some, None, IsTrue, if◌then◌else◌};
 ghost use Rattle.std.specs.Map.{lookup};
-ghost use Rattle.pc_history.specs.declared.entry.Entry.TheVariants as entry;
-ghost use Rattle.pc_history.specs.Table.{same, total};
-ghost use Rattle.pc_history.specs.Known.{after_entry};
-ghost use Rattle.pc_history.specs.Allowed.{is_allowed};
-ghost use Rattle.pc_history.specs.Limits.{listed_count, limit_passed};
-ghost use Rattle.pc_history.specs.Legal.{IsCanonical};
-ghost use Rattle.pc_holdings.specs.State.{said};
+ghost use Rattle.pc_account_history.specs.declared.entry.Entry.TheVariants as entry;
+ghost use Rattle.pc_tables.specs.Table.{same, total};
+ghost use Rattle.pc_account_history.specs.Known.{after_entry};
+ghost use Rattle.pc_account_history.specs.Allowed.{is_allowed};
+ghost use Rattle.pc_account_history.specs.Limits.{listed_count, limit_passed};
+ghost use Rattle.pc_account_history.specs.Legal.{IsCanonical};
+ghost use Rattle.pc_account_holdings.specs.State.{said};
 ghost use Rattle.pc_account.specs.Limits.{limit_where, counts_in, unlisted_in};
 
 use crate::parcels::{limit_of_copy, limit_of_letters};
+use pc_account_history::{Entry, MOST_CHANGES, MOST_CLIENTS, MOST_MAILBOXES, MOST_SUBSCRIPTIONS};
+use pc_account_holdings::Holdings;
 use pc_base::{LimitWord, Name};
-use pc_history::{Entry, MOST_CHANGES, MOST_CLIENTS, MOST_MAILBOXES, MOST_SUBSCRIPTIONS};
-use pc_holdings::Holdings;
 use pc_message::Message;
 
 /// The limit that an allowed entry would pass first.

@@ -1,22 +1,22 @@
 //! The account as a machine, of which a store keeps the history.
 
 use crate::account::Account;
+use pc_account_history::Entry;
 use pc_base::{Bytes, Machine, Memory, ReadFault};
-use pc_history::Entry;
 use std::alloc::Global;
 
 impl Machine for Account {
     ghost use Rattle.std.specs.Prelude.{Some, IsTrue};
     ghost use Rattle.std.proofs.Common.{arith, refl};
-    ghost use Rattle.pc_spelling.specs.Spelling.{spelled_entry, spelled_record};
-    ghost use Rattle.pc_spelling.specs.EntryForm.{entry_fits, IsEntryFault};
-    ghost use Rattle.pc_spelling.specs.RecordForm.{IsRecordFault};
-    ghost use Rattle.pc_spelling.proofs.EntryLaws.{one-entry, entry-is-read, one-entry-fault};
-    ghost use Rattle.pc_holdings.specs.State.{new_state, step as stepped};
-    ghost use Rattle.pc_records.specs.Legal.{IsLegalState, IsCanonicalState, accepts};
-    ghost use Rattle.pc_records.specs.Numbered.{suits as suited, numbered as renumbered};
+    ghost use Rattle.pc_account_spelling.specs.Spelling.{spelled_entry, spelled_record};
+    ghost use Rattle.pc_account_spelling.specs.EntryForm.{entry_fits, IsEntryFault};
+    ghost use Rattle.pc_account_spelling.specs.RecordForm.{IsRecordFault};
+    ghost use Rattle.pc_account_spelling.proofs.EntryLaws.{one-entry, entry-is-read, one-entry-fault};
+    ghost use Rattle.pc_account_holdings.specs.State.{new_state, step as stepped};
+    ghost use Rattle.pc_account_records.specs.Legal.{IsLegalState, IsCanonicalState, accepts};
+    ghost use Rattle.pc_account_records.specs.Numbered.{suits as suited, numbered as renumbered};
     ghost use Rattle.pc_account.specs.Following as following;
-    ghost use Rattle.pc_records.specs.Recorded as recorded;
+    ghost use Rattle.pc_account_records.specs.Recorded as recorded;
 
     type Entry = Entry;
 
@@ -91,7 +91,7 @@ impl Machine for Account {
     }
 
     fn allows(&self, entry: &Entry) -> bool {
-        Account::allows(self, entry) && pc_spelling::fits(entry)
+        Account::allows(self, entry) && pc_account_spelling::fits(entry)
     }
 
     fn apply(&mut self, alloc: Global, entry: &Entry) -> Result<(), Memory> {
@@ -111,10 +111,10 @@ impl Machine for Account {
     }
 
     fn write_entry(entry: &Entry, out: &mut Bytes) -> Result<(), Memory> {
-        pc_spelling::write_entry(entry, out)
+        pc_account_spelling::write_entry(entry, out)
     }
 
     fn read_entry(alloc: Global, bytes: &[u8]) -> Result<Entry, ReadFault> {
-        pc_spelling::read_entry(alloc, bytes)
+        pc_account_spelling::read_entry(alloc, bytes)
     }
 }

@@ -3,16 +3,16 @@
 ghost use Rattle.std.specs.Prelude.{◌≡◌, ◌+◌, ◌*◌, ◌≤◌, ◌<◌, [], ◌∷◌, not, nat_lt, nat_le, length, map};
 ghost use Rattle.std.specs.List.{list_all};
 ghost use Rattle.pc_message.specs.Message.{size_of};
-ghost use Rattle.pc_history.specs.Table.{total};
-ghost use Rattle.pc_history.specs.Allowed.{messages};
-ghost use Rattle.pc_history.specs.Legal.{IsCanonical};
-ghost use Rattle.pc_holdings.specs.State.{said};
+ghost use Rattle.pc_tables.specs.Table.{total};
+ghost use Rattle.pc_account_history.specs.Allowed.{messages};
+ghost use Rattle.pc_account_history.specs.Legal.{IsCanonical};
+ghost use Rattle.pc_account_holdings.specs.State.{said};
 ghost use Rattle.pc_account.specs.Limits.{parcel_of, parcels_to, weight_in, has_uids, has_places, limit_of_parcels};
 
 use crate::limits::limit_of_changes;
+use pc_account_history::{MOST_MESSAGES, MOST_UIDS, MOST_WEIGHT};
+use pc_account_holdings::Holdings;
 use pc_base::{LimitWord, Name};
-use pc_history::{MOST_MESSAGES, MOST_UIDS, MOST_WEIGHT};
-use pc_holdings::Holdings;
 use pc_message::Message;
 
 /// The limit that would be passed first if a message of this size came into a mailbox.

@@ -1,17 +1,18 @@
 //! What an account allows, and what wishes come to.
 
 ghost use Rattle.std.specs.Prelude.{◌≡◌, not, is_none, None, true, IsTrue, IfOk, IfSome};
-ghost use Rattle.pc_history.specs.Allowed.{inbox, is_mailbox, is_client, is_allowed};
-ghost use Rattle.pc_history.specs.History.{History, known};
-ghost use Rattle.pc_history.specs.Known.{Known};
-ghost use Rattle.pc_history.specs.Table.{same};
+ghost use Rattle.pc_base.specs.Name.{inbox};
+ghost use Rattle.pc_base.specs.AskFault.{Tells, IsNoMemory};
+ghost use Rattle.pc_account_history.specs.Allowed.{is_mailbox, is_client, is_allowed};
+ghost use Rattle.pc_account_history.specs.History.{History, known};
+ghost use Rattle.pc_account_history.specs.Known.{Known};
+ghost use Rattle.pc_tables.specs.Table.{same};
 ghost use Rattle.pc_account.specs.declared.wish.Wish.TheVariants as wish;
-ghost use Rattle.pc_history.specs.Legal.{IsCanonical};
-ghost use Rattle.pc_spelling.specs.EntryForm.{entry_fits};
-ghost use Rattle.pc_records.specs.Legal.{accepts};
-ghost use Rattle.pc_holdings.specs.State.{said, StandsFor, may_follow};
+ghost use Rattle.pc_account_history.specs.Legal.{IsCanonical};
+ghost use Rattle.pc_account_spelling.specs.EntryForm.{entry_fits};
+ghost use Rattle.pc_account_records.specs.Legal.{accepts};
+ghost use Rattle.pc_account_holdings.specs.State.{said, StandsFor, may_follow};
 ghost use Rattle.pc_account.specs.Plan.{refused_where, refusal_of, holds, entry_of, planned, IsWish, IsAtOnce};
-ghost use Rattle.pc_account.specs.Answers.{Tells, IsNoMemory};
 
 use crate::account::Account;
 use crate::allowing::{
@@ -21,11 +22,11 @@ use crate::allowing::{
 use crate::forgetting::forget;
 use crate::limits::limit_passed;
 use crate::taking::take;
-use crate::wish::{AskFault, Wish};
-use pc_base::{Name, Refusal};
-use pc_history::Entry;
-use pc_holdings::Holdings;
-use pc_spelling::fits;
+use crate::wish::Wish;
+use pc_account_history::Entry;
+use pc_account_holdings::Holdings;
+use pc_account_spelling::fits;
+use pc_base::{AskFault, Name, Refusal};
 use std::alloc::Global;
 
 impl Account {

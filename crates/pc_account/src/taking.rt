@@ -1,20 +1,19 @@
 //! Which of the mails that wait are taken.
 
 ghost use Rattle.std.specs.Prelude.{◌≡◌, ◌≤◌, length, map, take, IfOk};
-ghost use Rattle.pc_history.specs.Allowed.{inbox};
-ghost use Rattle.pc_history.specs.Legal.{IsCanonical};
-ghost use Rattle.pc_holdings.specs.State.{said};
+ghost use Rattle.pc_base.specs.Name.{inbox};
+ghost use Rattle.pc_base.specs.AskFault.{Tells};
+ghost use Rattle.pc_account_history.specs.Legal.{IsCanonical};
+ghost use Rattle.pc_account_holdings.specs.State.{said};
 ghost use Rattle.pc_account.specs.Plan.{planned, IsWish, target_of};
 ghost use Rattle.pc_account.specs.Taking.{letter_of, bytes_of_letter, bytes_of_letters, can_come, front_count};
-ghost use Rattle.pc_account.specs.Answers.{Tells};
 ghost use Rattle.pc_account.specs.declared.wish.Wish.TheVariants as wish;
 
 use crate::allowing::{are_live, is_mailbox};
 use crate::parcels::limit_of_letters;
-use crate::wish::AskFault;
-use pc_base::{Memory, Name, Room};
-use pc_history::Entry;
-use pc_holdings::Holdings;
+use pc_account_history::Entry;
+use pc_account_holdings::Holdings;
+use pc_base::{AskFault, Memory, Name, Room};
 use pc_message::{Letters, Mail, Message};
 use std::alloc::Global;
 
@@ -63,7 +62,7 @@ fn letters_of(alloc: Global, holdings: &Holdings, mails: &[Mail]) -> Result<Lett
 {
     let mut letters = Letters::new(alloc);
     for mail in mails {
-        letters.push(target_of(holdings, mail), mail.message.copy(alloc)?)?;
+        letters.push((target_of(holdings, mail), mail.message.copy(alloc)?))?;
     }
     Ok(letters)
 }
@@ -75,17 +74,7 @@ fn target_of(holdings: &Holdings, mail: &Mail) -> Name
     if is_mailbox(holdings, &mail.mailbox) {
         return mail.mailbox;
     }
-    inbox()
-}
-
-/// The mailbox that can't be dropped.
-fn inbox() -> Name
-    ensures { result ≡ inbox }
-{
-    match Name::read(b"inbox") {
-        Some(name) => name,
-        None => unreachable!(),
-    }
+    Name::inbox()
 }
 
 /// How many letters the longest front has that can be pulled.

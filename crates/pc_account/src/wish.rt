@@ -1,8 +1,6 @@
-//! What is wished for, and why a wish or a question has no answer.
+//! What is wished for.
 
-ghost use Rattle.std.specs.Prelude.{◌≡◌};
-
-use pc_base::{Memory, Name, Refusal, Room};
+use pc_base::{Name, Room};
 use pc_mailbox::Shown;
 use pc_message::Mails;
 
@@ -83,24 +81,4 @@ pub enum Wish {
         board: Name,
         uid: u32,
     },
-}
-
-/// Why a wish or a question has no answer.
-#[derive(Clone, Copy)]
-pub enum AskFault {
-    /// The repository refuses it.
-    Refused(Refusal),
-    /// Want of memory.
-    Memory,
-}
-
-impl From<Memory> for AskFault {
-    ghost use Rattle.std.specs.Prelude.{◌≡◌};
-    ghost use Rattle.pc_account.specs.declared.wish.AskFault.TheVariants as fault;
-
-    ghost from_gives = { λ _ given. given ≡ fault.Memory };
-
-    fn from(_memory: Memory) -> AskFault {
-        AskFault::Memory
-    }
 }

@@ -3,6 +3,8 @@ pub mod Name
 pub mod Number
 pub mod Recipient
 pub mod Refusal
+pub mod AskFault
+pub mod CommitFault
 pub mod ShortText
 pub mod Stream
 pub mod MemoryStream

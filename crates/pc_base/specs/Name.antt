@@ -1,5 +1,5 @@
--- Names and passwords: tests on their bytes.
-use Rattle.std.specs.Prelude.{ℕ, Bool, false, ◌==◌, ◌&&◌, ◌||◌, nat_lt, nat_le, List, [], ◌∷◌, length}
+-- Names and passwords: tests on their bytes; the name of the inbox.
+use Rattle.std.specs.Prelude.{ℕ, Bool, false, ◌==◌, ◌&&◌, ◌||◌, nat_lt, nat_le, List, [], ◌∷◌, length, codes}
 use Rattle.std.specs.List.{list_all}
 
 -- a small letter
@@ -14,6 +14,10 @@ is_name_byte byte = is_letter byte || (nat_le 48 byte && nat_le byte 57) || byte
 abbrev pub is_name : List ℕ → Bool
 is_name [] = false
 is_name (first ∷ others) = is_letter first && list_all is_name_byte others && nat_lt (length others) 32
+
+-- the mailbox of new mail, which can't be dropped
+abbrev pub inbox : List ℕ
+inbox = codes "inbox"
 
 -- a byte that is seen when it is printed, other than a space
 abbrev pub is_printed : ℕ → Bool

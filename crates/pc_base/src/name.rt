@@ -3,7 +3,7 @@
 ghost use Rattle.std.specs.Prelude.{◌≡◌, IsTrue};
 ghost use Rattle.std.specs.Option.{SomeIff};
 ghost use Rattle.std.specs.List.{list_all};
-ghost use Rattle.pc_base.specs.Name.{is_letter as letter, is_name as named, is_name_byte as fits_name, is_password as passes, is_printed};
+ghost use Rattle.pc_base.specs.Name.{inbox, is_letter as letter, is_name as named, is_name_byte as fits_name, is_password as passes, is_printed};
 
 use crate::short_text::ShortText;
 use std::cmp::Ordering;
@@ -42,12 +42,29 @@ impl Name {
         })
     }
 
+    /// The mailbox of new mail, which can't be dropped.
+    pub fn inbox() -> Name
+        ensures { result ≡ inbox }
+    {
+        Name {
+            text: ShortText::copy_of(b"inbox"),
+        }
+    }
+
     /// The bytes of the name.
     pub fn bytes(&self) -> &[u8]
         ensures value { result.now ≡ self.now }
         ensures name { IsTrue (named self.now) }
     {
         self.text.bytes()
+    }
+
+    /// The same name.
+    pub fn copy(&self) -> Name
+        ensures value { result ≡ self.now }
+        ensures name { IsTrue (named result) }
+    {
+        Name { text: self.text }
     }
 }
 

@@ -1,20 +1,14 @@
 -- Uids and names that come once.
-use Rattle.std.proofs.Common.{◌≡◌, ℕ, ◌-◌, ◌<◌, ◌≤◌, ◌==◌, Bool, true, false, not, ◌&&◌, ◌||◌, nat_lt, List, [], ◌∷◌, map, length, take, drop, get_or, refl, sym, ◌∙◌, ap, arith, ne_eqb, true≢false}
+use Rattle.std.proofs.Common.{◌≡◌, ℕ, ◌-◌, ◌<◌, ◌≤◌, ◌==◌, Bool, true, false, not, ◌&&◌, ◌||◌, nat_lt, List, [], ◌∷◌, map, length, take, drop, get_or, refl, sym, ◌∙◌, ap, arith, ne_eqb}
 use Rattle.std.specs.List.{list_any}
-use Rattle.std.specs.declared.cmp.Ordering.{Ordering}
-use Rattle.std.specs.declared.cmp.Ordering.TheVariants.{Less, Equal, Greater}
-use Rattle.std.specs.Cmp.Lexicographic.{slice_cmp}
-use Rattle.std.specs.Ordering.{nat_cmp, is_lt, ordering_reverse}
-use Rattle.std.proofs.lemmas.Cmp.{nat_list_cmp_total}
 use Rattle.std.proofs.lemmas.Bool.{and_parts, ltb-true}
 use Rattle.std.proofs.lemmas.List.{take_rest}
 use Rattle.pc_message.specs.declared.descriptor.Change.{Change}
-use Rattle.pc_history.specs.Allowed.{rises_from}
-use Rattle.pc_history.specs.Table.{same, is_among}
-use Rattle.pc_history.proofs.Tables.{same-sym, same-true}
+use Rattle.pc_tables.specs.Order.{rises_from}
+use Rattle.pc_tables.specs.Table.{same, is_among}
+use Rattle.pc_tables.proofs.Table.{same-sym}
 use Rattle.pc_cache_history.specs.Entry.{uid_of}
 use Rattle.pc_cache_history.specs.Allowed.{are_different}
-use Rattle.pc_cache.specs.Names.{is_before, rise_from, names_rise}
 
 -- ---- numbers that rise come once
 
@@ -62,39 +56,3 @@ names-step name (one ∷ names) found some first e =
     let others : behind (one ∷ names) ≡ names = take_rest (one ∷ names) 1 ∙ drop-one one names in
     let among : found ≡ is_among one names = e ∙ among-turned name (behind (one ∷ names)) ∙ (λ i. is_among (first i) (others i)) in
     sym (λ i. not (among i) && are_different same (others i))
-
--- ---- names that rise come once
-
-less-of : (o : Ordering) → is_lt o ≡ true → o ≡ Less
-less-of Less h = refl
-less-of Equal h = absurd (true≢false (sym h))
-less-of Greater h = absurd (true≢false (sym h))
-
-less-differs : (name other : List ℕ) → slice_cmp nat_cmp name other ≡ Less → same name other ≡ false
-less-differs name other less = elim (same name other) as (λ b. same name other ≡ b → b ≡ false) [
-  | true ↦ λ e.
-      let own : slice_cmp nat_cmp other other ≡ Less = ap (λ n. slice_cmp nat_cmp n other) (sym (same-true name other e)) ∙ less in
-      let turned : slice_cmp nat_cmp other other ≡ Greater = nat_list_cmp_total.antisymm other other ∙ ap ordering_reverse own in
-      let both : Less ≡ Greater = sym own ∙ turned in
-      cc
-  | false ↦ λ e. refl
-] refl
-
-before-all : (name last : List ℕ) (names : List (List ℕ)) → slice_cmp nat_cmp name last ≡ Less → rise_from last names ≡ true → is_among name names ≡ false
-before-all name last [] less h = refl
-before-all name last (next ∷ names) less h =
-    let parts = and_parts (is_before last next) (rise_from next names) h in
-    let further = nat_list_cmp_total.trans name last next less (less-of (slice_cmp nat_cmp last next) parts.0) in
-    rw (less-differs name next further) (before-all name next names further parts.1)
-
-rise-from-differ : (last : List ℕ) (names : List (List ℕ)) → rise_from last names ≡ true → are_different same (last ∷ names) ≡ true
-rise-from-differ last [] h = refl
-rise-from-differ last (next ∷ names) h =
-    let parts = and_parts (is_before last next) (rise_from next names) h in
-    let less = less-of (slice_cmp nat_cmp last next) parts.0 in
-    let other : is_among last (next ∷ names) ≡ false = rw (less-differs last next less) (before-all last next names less parts.1) in
-    ap (λ b. not b && are_different same (next ∷ names)) other ∙ rise-from-differ next names parts.1
-
-pub names-rise-differ : (names : List (List ℕ)) → names_rise names ≡ true → are_different same names ≡ true
-names-rise-differ [] h = refl
-names-rise-differ (first ∷ names) h = rise-from-differ first names h

@@ -1,29 +1,11 @@
 -- How many descriptors there are in a table, once one mailbox is changed or put behind the others.
-use Rattle.std.proofs.Common.{◌≡◌, ℕ, ◌+◌, ◌%◌, Bool, true, false, cond, List, [], ◌∷◌, ◌++◌, length, Option, None, Some, refl, sym, ap, ◌∙◌, arith}
+use Rattle.std.proofs.Common.{◌≡◌, ℕ, ◌+◌, ◌%◌, List, [], ◌∷◌, ◌++◌, length, Some, sym, ap, ◌∙◌, arith}
 use Rattle.std.specs.Map.{lookup, keys_of, set_value}
 use Rattle.pc_message.specs.declared.descriptor.Descriptor.{Descriptor}
-use Rattle.pc_history.specs.Table.{same}
-use Rattle.pc_history.proofs.Tables.{some-same, some-none, keys-append, keys-set_value}
-use Rattle.pc_history.proofs.Numbers.{total-append}
+use Rattle.pc_tables.specs.Table.{same}
+use Rattle.pc_tables.proofs.Table.{keys-append, keys-set_value}
+use Rattle.pc_tables.proofs.Totals.{total-append, total-set}
 use Rattle.pc_cache.specs.Mailboxes.{Table, count_in}
-
-set-step : (b : Bool) (entry : List ℕ × List Descriptor) (table rest : Table) (found : Option (List Descriptor)) (old new : List Descriptor) → (found ≡ Some old → count_in rest + length old ≡ count_in table + length new) → cond b (Some entry.1) found ≡ Some old → count_in (cond b ((entry.0, new) ∷ table) (entry ∷ rest)) + length old ≡ count_in (entry ∷ table) + length new
-set-step true entry table rest found old new h e = let one = ap length (some-same entry.1 old e) in omega (arith, one)
-set-step false entry table rest found old new h e = let more = h e in omega (arith, more)
-
--- one list in place of another
-pub count-set : (name : List ℕ) (table : Table) (old new : List Descriptor) → lookup (same name) table ≡ Some old → count_in (set_value (same name) table new) + length old ≡ count_in table + length new
-count-set name [] old new e = absurd (some-none old (sym e))
-count-set name (entry ∷ table) old new e = set-step (same name entry.0) entry table (set_value (same name) table new) (lookup (same name) table) old new (count-set name table old new) e
-
-unset-step : (b : Bool) (entry : List ℕ × List Descriptor) (table rest : Table) (found : Option (List Descriptor)) (new : List Descriptor) → (◌≡◌ {A = Option (List Descriptor)} None found → rest ≡ table) → ◌≡◌ {A = Option (List Descriptor)} None (cond b (Some entry.1) found) → cond b ((entry.0, new) ∷ table) (entry ∷ rest) ≡ entry ∷ table
-unset-step true entry table rest found new h e = absurd (some-none entry.1 (sym e))
-unset-step false entry table rest found new h e = ap (λ (l : Table). entry ∷ l) (h e)
-
--- nothing is set where nothing is found
-pub unset : (name : List ℕ) (table : Table) (new : List Descriptor) → ◌≡◌ {A = Option (List Descriptor)} None (lookup (same name) table) → set_value (same name) table new ≡ table
-unset name [] new e = refl
-unset name (entry ∷ table) new e = unset-step (same name entry.0) entry table (set_value (same name) table new) (lookup (same name) table) new (unset name table new) e
 
 -- the names and the count of a table
 abbrev pub AreKept : List (List ℕ) → ℕ → Table → Type 0
@@ -40,6 +22,6 @@ kept-put names all count more table entries mailbox descriptors push long put ke
 -- they follow the change of a mailbox
 pub kept-set : (names : List (List ℕ)) (count new_count before behind : ℕ) (table entries : Table) (mailbox : List ℕ) (old new : List Descriptor) → Some old ≡ lookup (same mailbox) table → entries ≡ set_value (same mailbox) table new → before ≡ length old → behind ≡ length new → ((from to : ℕ) → to + before ≡ from + behind → count ≡ from % 18446744073709551616 → new_count ≡ to % 18446744073709551616) → AreKept names count table → AreKept names new_count entries
 kept-set names count new_count before behind table entries mailbox old new found set is_before is_behind follows kept =
-    let counted = count-set mailbox table old new (sym found) in
+    let counted = total-set (λ (list : List Descriptor). length list) mailbox table old new (sym found) in
     let followed = follows (count_in table) (count_in (set_value (same mailbox) table new)) (omega (arith, counted, is_before, is_behind)) kept.1 in
     (kept.0 ∙ sym (ap keys_of set ∙ keys-set_value (same mailbox) table new), followed ∙ ap (λ (t : Table). count_in t % 18446744073709551616) (sym set))

@@ -1,7 +1,10 @@
 mod Apart
 mod Counted
-mod Gone
+mod Merging
+mod Orders
 mod Places
+mod Rises
 mod Sets
+mod Shown
 mod Standing
 mod Taking

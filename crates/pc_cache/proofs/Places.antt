@@ -1,51 +1,16 @@
 -- Descriptors by rising uid: what a search by halves finds, and what is done at the place that it finds.
-use Rattle.std.proofs.Common.{◌≡◌, ℕ, zero, suc, ◌<◌, ◌≤◌, ◌==◌, Bool, true, false, not, cond, nat_lt, List, [], ◌∷◌, take, drop, length, insert, get_or, slice_get, Some, is_some, refl, sym, ap, subst, arith, lt-ltb, le-ltb, ne_eqb, true≢false}
+use Rattle.std.proofs.Common.{◌≡◌, ℕ, zero, suc, ◌<◌, ◌≤◌, ◌==◌, Bool, true, false, not, cond, nat_lt, List, [], ◌∷◌, take, drop, insert, slice_get, Some, is_some, refl, sym, ap, subst, arith, lt-ltb, le-ltb, ne_eqb, true≢false}
 use Rattle.std.proofs.Math.ListN.{set}
 use Rattle.std.specs.List.{filter, remove, AllByRecursion as Every}
-use Rattle.std.specs.List.Sorted.{IsNonDecreasingBy}
 use Rattle.std.specs.Option.{option_map_or}
-use Rattle.std.proofs.lemmas.Bool.{ltb-true, ltb-false, not-true, eqb-true, eqb-false}
+use Rattle.std.proofs.lemmas.Bool.{eqb-true, eqb-false}
 use Rattle.pc_message.specs.declared.descriptor.Descriptor.{Descriptor}
-use Rattle.pc_history.proofs.Uids.{Every-weaker}
-use Rattle.pc_history.proofs.Formed.{Every-passes}
+use Rattle.pc_tables.proofs.Lists.{Every-weaker}
 use Rattle.pc_cache_history.specs.Record.{descriptor_at}
 use Rattle.pc_cache_history.specs.Effect.{with_descriptor, other_descriptors}
 use Rattle.pc_cache_history.specs.Legal.{AreRising}
 use Rattle.pc_cache.specs.Places.{is_below}
-
--- ---- where the descriptors part
-
-at-every : (P : Descriptor → Type 0) (descriptors : List Descriptor) (i : ℕ) (d : Descriptor) → Every P descriptors → i < length descriptors → P (get_or descriptors i d)
-at-every P [] i d h lt = absurd (omega (arith, lt))
-at-every P (first ∷ descriptors) zero d h lt = h.0
-at-every P (first ∷ descriptors) (suc i) d h lt = at-every P descriptors i d h.1 (omega (arith, lt))
-
-rise-at : (descriptors : List Descriptor) (i j : ℕ) (d : Descriptor) → AreRising descriptors → i ≤ j → j < length descriptors → (get_or descriptors i d).uid ≤ (get_or descriptors j d).uid
-rise-at [] i j d h le lt = absurd (omega (arith, lt))
-rise-at (first ∷ descriptors) zero zero d h le lt = omega arith
-rise-at (first ∷ descriptors) zero (suc j) d h le lt = let later = at-every (λ (later : Descriptor). first.uid < later.uid) descriptors j d h.0 (omega (arith, lt)) in omega (arith, later)
-rise-at (first ∷ descriptors) (suc i) zero d h le lt = absurd (omega (arith, le))
-rise-at (first ∷ descriptors) (suc i) (suc j) d h le lt = rise-at descriptors i j d h.1 (omega (arith, le)) (omega (arith, lt))
-
-pub uids-rise : (descriptors : List Descriptor) → AreRising descriptors → IsNonDecreasingBy (λ (descriptor : Descriptor). descriptor.uid) descriptors
-uids-rise descriptors h i j d le lt = rise-at descriptors i j d h le lt
-
-module _ (p : Descriptor → Bool) where
-  none-pass : (descriptors : List Descriptor) → ((k : ℕ) (d : Descriptor) → k < length descriptors → p (get_or descriptors k d) ≡ false) → (filter p descriptors ≡ []) × (filter (λ (descriptor : Descriptor). not (p descriptor)) descriptors ≡ descriptors)
-  none-pass [] h = (refl, refl)
-  none-pass (first ∷ descriptors) h =
-      let rest = none-pass descriptors (λ k d lt. h (suc k) d (omega (arith, lt))) in
-      let one : p first ≡ false = h 0 first (omega arith) in
-      (rw one rest.0, rw one (ap (λ (l : List Descriptor). first ∷ l) rest.1))
-
-  -- those in front of the point pass the test, and those behind it don't
-  pub parted : (descriptors : List Descriptor) (i : ℕ) → i ≤ length descriptors → ((k : ℕ) (d : Descriptor) → k < i → p (get_or descriptors k d) ≡ true) → ((k : ℕ) (d : Descriptor) → i ≤ k → k < length descriptors → p (get_or descriptors k d) ≡ false) → (take i descriptors ≡ filter p descriptors) × (drop i descriptors ≡ filter (λ (descriptor : Descriptor). not (p descriptor)) descriptors)
-  parted descriptors zero le before behind = let none = none-pass descriptors (λ k d lt. behind k d (omega arith) lt) in (sym none.0, sym none.1)
-  parted [] (suc i) le before behind = absurd (omega (arith, le))
-  parted (first ∷ descriptors) (suc i) le before behind =
-      let rest = parted descriptors i (omega (arith, le)) (λ k d lt. before (suc k) d (omega (arith, lt))) (λ k d l lt. behind (suc k) d (omega (arith, l)) (omega (arith, lt))) in
-      let one : p first ≡ true = before 0 first (omega arith) in
-      (rw one (ap (λ (l : List Descriptor). first ∷ l) rest.0), rw one rest.1)
+use Rattle.pc_tables.proofs.Halves.{filter-below, filter-from}
 
 -- ---- the place of a uid: those before it have lower uids, and those from it on don't
 
@@ -55,8 +20,8 @@ pub record IsPlace (uid place : ℕ) (descriptors : List Descriptor) : Type 0 wh
 
 place-parted : (uid place : ℕ) (descriptors : List Descriptor) → take place descriptors ≡ filter (is_below uid) descriptors → drop place descriptors ≡ filter (λ (descriptor : Descriptor). not (is_below uid descriptor)) descriptors → IsPlace uid place descriptors
 place-parted uid place descriptors front back = record {
-  before = rw front (Every-weaker (λ (descriptor : Descriptor). is_below uid descriptor ≡ true) (λ (descriptor : Descriptor). descriptor.uid < uid) (λ descriptor h. ltb-true descriptor.uid uid h) (filter (is_below uid) descriptors) (Every-passes (is_below uid) descriptors));
-  behind = rw back (Every-weaker (λ (descriptor : Descriptor). not (is_below uid descriptor) ≡ true) (λ (descriptor : Descriptor). uid ≤ descriptor.uid) (λ descriptor h. ltb-false descriptor.uid uid (not-true (is_below uid descriptor) h)) (filter (λ (descriptor : Descriptor). not (is_below uid descriptor)) descriptors) (Every-passes (λ (descriptor : Descriptor). not (is_below uid descriptor)) descriptors));
+  before = rw front (filter-below (λ (descriptor : Descriptor). descriptor.uid) uid descriptors);
+  behind = rw back (filter-from (λ (descriptor : Descriptor). descriptor.uid) uid descriptors);
 }
 
 -- the same of the list in which it was looked for

@@ -4,8 +4,8 @@ use Rattle.std.specs.List.{filter}
 use Rattle.std.specs.Map.{lookup, keys_of}
 use Rattle.std.proofs.lemmas.Bool.{cases_lt, lt-leb}
 use Rattle.pc_message.specs.declared.descriptor.Change.{Change}
-use Rattle.pc_history.specs.Table.{same}
-use Rattle.pc_history.proofs.Tables.{is_among-keys}
+use Rattle.pc_tables.specs.Table.{same}
+use Rattle.pc_tables.proofs.Table.{is_among-keys}
 use Rattle.pc_cache_history.specs.declared.entry.CacheEntry.TheVariants.{Took}
 use Rattle.pc_cache_history.specs.Record.{CacheRecord, descriptors_in}
 use Rattle.pc_cache_history.specs.Effect.{mailboxes_after}

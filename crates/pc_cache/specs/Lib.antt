@@ -1,4 +1,5 @@
-pub mod Names
+pub mod Rising
 pub mod Places
 pub mod Mailboxes
 pub mod State
+pub mod Shown

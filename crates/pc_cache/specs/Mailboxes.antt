@@ -2,7 +2,7 @@
 use Rattle.std.specs.Prelude.{ℕ, List, [], length, unwrap_or}
 use Rattle.std.specs.Map.{lookup}
 use Rattle.pc_message.specs.declared.descriptor.Descriptor.{Descriptor}
-use Rattle.pc_history.specs.Table.{same, total}
+use Rattle.pc_tables.specs.Table.{same, total}
 
 abbrev pub Table : Type 0
 Table = List (List ℕ × List Descriptor)

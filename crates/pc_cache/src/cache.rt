@@ -43,8 +43,8 @@ impl Cache {
         })
     }
 
-    /// Whether the entry may come next. It takes no memory. A `Took` whose uids don't rise, and a
-    /// `Kept` whose names don't, take time by the square of their length.
+    /// Whether the entry may come next. It takes no memory: where the uids of a `Took` or the names
+    /// of a `Kept` don't rise, they are put in order on the stack.
     pub fn allows(&self, entry: &CacheEntry) -> bool
         ensures held { result ≡ is_allowed (said_by self.now) entry.now }
         ensures history { (h : History) → StandsFor self.now h → result ≡ is_allowed (known h) entry.now }

@@ -1,19 +1,26 @@
 //! The descriptors of a mailbox.
 
-ghost use Rattle.std.specs.Prelude.{◌≡◌, ◌<◌, ◌≤◌, ◌++◌, [], ◌∷◌, not, false, nat_eq, length, take, drop, slice_get, is_some, IfOk, OnOk, OnErr};
-ghost use Rattle.std.specs.List.{filter};
+ghost use Rattle.std.specs.Prelude.{◌≡◌, ◌<◌, ◌≤◌, ◌==◌, ◌++◌, [], ◌∷◌, not, true, false, nat_eq, length, map, take, drop, slice_get, is_some, IfOk, OnOk, OnErr};
+ghost use Rattle.std.specs.List.{filter, filter_map, cons_option};
 ghost use Rattle.std.specs.Option.{option_map_or};
 ghost use Rattle.pc_message.specs.declared.descriptor.Descriptor.{Descriptor as Described};
 ghost use Rattle.pc_cache_history.specs.Record.{descriptor_at};
 ghost use Rattle.pc_cache_history.specs.Effect.{with_descriptor, other_descriptors, with_change, with_changes};
+ghost use Rattle.pc_cache_history.specs.Entry.{uid_of as named_by, shown_by};
+ghost use Rattle.pc_cache_history.specs.Allowed.{are_different};
 ghost use Rattle.pc_cache_history.specs.Legal.{AreRising};
-ghost use Rattle.pc_cache.specs.Places.{is_below, AreNamed};
+ghost use Rattle.pc_cache.specs.Places.{is_below, AreNamed, unnamed};
 
+use crate::differing::uid_of;
 use indexmap::IndexSet;
 use pc_base::Memory;
 use pc_message::{Change, Descriptor};
 use std::alloc::Global;
 use std::marker::Model;
+use std::mem;
+
+/// As many changes are taken one after the other.
+const FEW: usize = 16;
 
 /// Descriptors by rising uid.
 #[derive(Drop)]
@@ -97,42 +104,83 @@ impl Descriptors {
         }
     }
 
-    /// Takes changes, one after the other. After `Err` some of them are taken.
+    /// Takes changes of different uids. After `Err` it isn't used again.
     pub fn take_all(&mut self, alloc: Global, changes: &[Change]) -> Result<(), Memory>
+        requires { are_different ◌==◌ (map named_by changes.now) ≡ true }
         ensures { OnOk result (self.new ≡ with_changes changes.now self.old) }
     {
-        self.drop_gone(alloc, changes)?;
+        if changes.len() <= FEW {
+            return self.take_each(alloc, changes);
+        }
+        self.merge(alloc, changes)
+    }
+
+    /// Takes changes, one after the other. After `Err` some of them are taken.
+    fn take_each(&mut self, alloc: Global, changes: &[Change]) -> Result<(), Memory>
+        ensures { OnOk result (self.new ≡ with_changes changes.now self.old) }
+    {
         for change in changes {
             self.take(alloc, change)?;
         }
         Ok(())
     }
 
-    /// Takes away in one pass what the changes say is gone, where that is more than one.
-    fn drop_gone(&mut self, alloc: Global, changes: &[Change]) -> Result<(), Memory>
-        ensures { OnOk result (with_changes changes.now self.new ≡ with_changes changes.now self.old) }
+    /// Takes changes of different uids at once: what they show is merged with what they don't name.
+    /// After `Err` there is nothing.
+    fn merge(&mut self, alloc: Global, changes: &[Change]) -> Result<(), Memory>
+        requires { are_different ◌==◌ (map named_by changes.now) ≡ true }
+        ensures { OnOk result (self.new ≡ with_changes changes.now self.old) }
     {
-        let gone = gone_in(alloc, changes)?;
-        if gone.len() <= 1 {
-            return Ok(());
-        }
-        self.descriptors
-            .retain(|descriptor| !gone.contains(&descriptor.uid));
+        let mut all = mem::replace(&mut self.descriptors, Vec::new(alloc));
+        take_away(alloc, &mut all, changes)?;
+        put_behind(alloc, &mut all, changes)?;
+        all.sort_by_key(|descriptor| descriptor.uid)?;
+        self.descriptors = all;
         Ok(())
     }
 }
 
-/// The uids of the messages that are gone.
-fn gone_in(alloc: Global, changes: &[Change]) -> Result<IndexSet<u32>, Memory>
-    ensures { IfOk result (λ gone. AreNamed gone.keys changes.now) }
+/// Takes away in one pass those that a change names.
+fn take_away(alloc: Global, all: &mut Vec<Descriptor>, changes: &[Change]) -> Result<(), Memory>
+    ensures { OnOk result (all.new.items ≡ unnamed changes.now all.old.items) }
 {
-    let mut gone = IndexSet::new(alloc);
+    let named = named_in(alloc, changes)?;
+    all.retain(|descriptor| !named.contains(&descriptor.uid));
+    Ok(())
+}
+
+/// Puts copies of those that the changes show behind the others.
+fn put_behind(alloc: Global, all: &mut Vec<Descriptor>, changes: &[Change]) -> Result<(), Memory>
+    ensures { OnOk result (all.new.items ≡ all.old.items ++ filter_map shown_by changes.now) }
+{
     for change in changes {
-        if let Change::Expunged(uid) = change {
-            gone.insert(*uid)?;
-        }
+        put_shown(alloc, all, change)?;
     }
-    Ok(gone)
+    Ok(())
+}
+
+/// Puts a copy of what the change shows behind the others, where it shows something.
+fn put_shown(alloc: Global, all: &mut Vec<Descriptor>, change: &Change) -> Result<(), Memory>
+    ensures { OnOk result (all.new.items ≡ all.old.items ++ cons_option (shown_by change.now) []) }
+{
+    match change {
+        Change::Present(descriptor) => {
+            all.push(copy_of(alloc, descriptor)?)?;
+            Ok(())
+        }
+        Change::Expunged(_) => Ok(()),
+    }
+}
+
+/// The uids that the changes name.
+fn named_in(alloc: Global, changes: &[Change]) -> Result<IndexSet<u32>, Memory>
+    ensures { IfOk result (λ named. AreNamed named.keys changes.now) }
+{
+    let mut named = IndexSet::new(alloc);
+    for change in changes {
+        named.insert(uid_of(change))?;
+    }
+    Ok(named)
 }
 
 /// Another descriptor that says the same.

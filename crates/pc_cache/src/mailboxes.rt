@@ -1,11 +1,13 @@
 //! The mailboxes of a cache.
 
-ghost use Rattle.std.specs.Prelude.{◌≡◌, ℕ, ◌+◌, ◌%◌, ◌^◌, ◌<◌, ◌++◌, [], ◌∷◌, None, length, is_some, OnOk, IfOk};
+ghost use Rattle.std.specs.Prelude.{◌≡◌, ℕ, ◌+◌, ◌%◌, ◌^◌, ◌<◌, ◌==◌, ◌++◌, [], ◌∷◌, true, None, map, length, is_some, OnOk, IfOk};
 ghost use Rattle.std.specs.List.{filter};
 ghost use Rattle.std.specs.Map.{lookup, keys_of, set_value};
-ghost use Rattle.pc_history.specs.Table.{same, is_among};
+ghost use Rattle.pc_tables.specs.Table.{same, is_among};
 ghost use Rattle.pc_cache_history.specs.Record.{descriptor_at};
 ghost use Rattle.pc_cache_history.specs.Effect.{with_changes};
+ghost use Rattle.pc_cache_history.specs.Entry.{uid_of};
+ghost use Rattle.pc_cache_history.specs.Allowed.{are_different};
 ghost use Rattle.pc_cache_history.specs.Step.{with_value, under};
 ghost use Rattle.pc_cache.specs.Mailboxes.{count_in, found_in};
 
@@ -13,8 +15,8 @@ use crate::descriptors::Descriptors;
 use crate::name_set::NameSet;
 use indexmap::IndexMap;
 use pc_base::{Memory, Name, Names};
-use pc_holdings::tables;
 use pc_message::{Change, Descriptor};
+use pc_tables::{replaced, tables};
 use std::alloc::Global;
 use std::marker::Model;
 
@@ -124,6 +126,7 @@ impl Mailboxes {
     /// Takes changes of a mailbox, which comes last where it isn't there. After `Err` they aren't
     /// used again.
     pub fn take(&mut self, alloc: Global, mailbox: &Name, changes: &[Change]) -> Result<(), Memory>
+        requires { are_different ◌==◌ (map uid_of changes.now) ≡ true }
         ensures { OnOk result (self.new ≡ with_value mailbox.now (with_changes changes.now (found_in mailbox.now self.old)) self.old) }
     {
         if self.contains(mailbox) {
@@ -141,6 +144,7 @@ impl Mailboxes {
         mailbox: &Name,
         changes: &[Change],
     ) -> Result<(), Memory>
+        requires { are_different ◌==◌ (map uid_of changes.now) ≡ true }
         ensures { OnOk result (self.new ≡ set_value (same mailbox.now) self.old (with_changes changes.now (found_in mailbox.now self.old))) }
     {
         let Some(descriptors) = self.table.get_mut(mailbox) else {
@@ -167,13 +171,6 @@ impl Mailboxes {
         self.names = names;
         Ok(())
     }
-}
-
-/// A number of 64 bits with one part in place of another.
-fn replaced(count: u64, before: u64, behind: u64) -> u64
-    ensures { (old new : ℕ) → new + before ≡ old + behind → count ≡ old % 2 ^ 64 → result ≡ new % 2 ^ 64 }
-{
-    count.wrapping_sub(before).wrapping_add(behind)
 }
 
 /// Those of the names that are in the set.

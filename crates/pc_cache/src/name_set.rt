@@ -1,7 +1,7 @@
 //! A set of names.
 
 ghost use Rattle.std.specs.Prelude.{◌≡◌, ℕ, List, IfOk};
-ghost use Rattle.pc_history.specs.Table.{is_among};
+ghost use Rattle.pc_tables.specs.Table.{is_among};
 
 use indexmap::IndexSet;
 use pc_base::{Memory, Name};

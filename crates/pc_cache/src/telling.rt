@@ -1,11 +1,12 @@
 //! What the cache answers.
 
 ghost use Rattle.std.specs.Prelude.{◌≡◌, ◌≤◌, IfOk};
-ghost use Rattle.std.specs.List.{AllByRecursion};
+ghost use Rattle.std.specs.List.{AllByRecursion, filter};
 ghost use Rattle.pc_cache_history.specs.declared.item.Item.{Item as Queued};
 ghost use Rattle.pc_cache_history.specs.Known.{said_by, has};
 ghost use Rattle.pc_cache_history.specs.History.{History, known};
 ghost use Rattle.pc_cache_history.specs.View.{flags_over, shown_changes};
+ghost use Rattle.pc_cache.specs.Shown.{is_of};
 ghost use Rattle.pc_cache.specs.State.{StandsFor};
 
 use crate::cache::Cache;
@@ -61,24 +62,37 @@ impl Cache {
         ensures held { IfOk result (λ changes. changes ≡ shown_changes (said_by self.now) mailbox.now) }
         ensures history { (h : History) → StandsFor self.now h → IfOk result (λ changes. changes ≡ shown_changes (known h) mailbox.now) }
     {
-        let queue = self.queue();
+        let items = items_of(alloc, self.queue(), mailbox)?;
         let mut changes = Changes::new(alloc);
         for descriptor in self.holdings.mailboxes().descriptors(mailbox) {
             let mut shown = copy_of(alloc, descriptor)?;
-            shown.flags = laid_over(queue, mailbox, shown.uid, shown.flags);
+            shown.flags = laid_over(items.as_slice(), mailbox, shown.uid, shown.flags);
             changes.push(Change::Present(shown))?;
         }
         Ok(changes)
     }
 }
 
+/// The queued changes of a mailbox.
+fn items_of(alloc: Global, queue: &[Item], mailbox: &Name) -> Result<Vec<Item>, Memory>
+    ensures { IfOk result (λ items. items.items ≡ filter (is_of mailbox.now) queue.now) }
+{
+    let mut items = Vec::new(alloc);
+    for item in queue {
+        if item.mailbox == *mailbox {
+            items.push(*item)?;
+        }
+    }
+    Ok(items)
+}
+
 /// The flags of a message with queued changes laid over them, one after the other.
-fn laid_over(queue: &[Item], mailbox: &Name, uid: u32, flags: u16) -> u16
-    requires { AllByRecursion (λ (item : Queued). item.flag ≤ 15) queue.now }
-    ensures { result ≡ flags_over mailbox.now uid queue.now flags }
+fn laid_over(items: &[Item], mailbox: &Name, uid: u32, flags: u16) -> u16
+    requires { AllByRecursion (λ (item : Queued). item.flag ≤ 15) items.now }
+    ensures { result ≡ flags_over mailbox.now uid items.now flags }
 {
     let mut shown = flags;
-    for item in queue {
+    for item in items {
         shown = item.laid_over(mailbox, uid, shown);
     }
     shown

@@ -6,9 +6,10 @@ use Rattle.std.specs.Option.{option_or}
 use Rattle.std.proofs.lemmas.Bool.{and_parts}
 use Rattle.pc_message.specs.declared.descriptor.Descriptor.{Descriptor}
 use Rattle.pc_message.specs.declared.descriptor.Change.{Change}
-use Rattle.pc_history.specs.Table.{same, is_among}
-use Rattle.pc_history.proofs.Tables.{and3, cond_same, same-true, same-sym, same-refl, lookup-append, lookup-set_value, keys-append, keys-set_value, is_among-keys}
-use Rattle.pc_history.proofs.Boxes.{option_or-none}
+use Rattle.pc_tables.specs.Table.{same, is_among}
+use Rattle.pc_tables.proofs.Booleans.{and3, cond_same}
+use Rattle.pc_tables.proofs.Table.{same-true, same-sym, same-refl, lookup-append, lookup-set_value, keys-append, keys-set_value, is_among-keys}
+use Rattle.pc_tables.proofs.Options.{option_or-none}
 use Rattle.pc_cache_history.specs.declared.limits.TheConstants.{MOST_TAKEN}
 use Rattle.pc_cache_history.specs.declared.entry.CacheEntry.{CacheEntry}
 use Rattle.pc_cache_history.specs.declared.entry.CacheEntry.TheVariants.{Begin, Synced, Took, Kept, Queue, Answered}

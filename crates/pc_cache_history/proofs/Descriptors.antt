@@ -6,10 +6,10 @@ use Rattle.std.proofs.lemmas.Bool.{cases_eq, cases_order, and_parts, or_parts, n
 use Rattle.pc_message.specs.declared.descriptor.Descriptor.{Descriptor}
 use Rattle.pc_message.specs.declared.descriptor.Change.{Change}
 use Rattle.pc_message.specs.declared.descriptor.Change.TheVariants.{Present, Expunged}
-use Rattle.pc_history.proofs.Tables.{cond_same}
-use Rattle.pc_history.proofs.Uids.{Every-weaker, Every-append, Every-filter}
-use Rattle.pc_history.proofs.Boxes.{option_or-none}
-use Rattle.pc_history.proofs.Formed.{Every-passes, Ordered-filter, Ordered-append}
+use Rattle.pc_tables.proofs.Booleans.{cond_same}
+use Rattle.pc_tables.proofs.Lists.{Every-weaker, Every-append, Every-filter, Every-passes}
+use Rattle.pc_tables.proofs.Options.{option_or-none}
+use Rattle.pc_tables.proofs.Order.{Ordered-filter, Ordered-append}
 use Rattle.pc_cache_history.specs.Entry.{uid_of, shown_by}
 use Rattle.pc_cache_history.specs.Record.{descriptor_at}
 use Rattle.pc_cache_history.specs.Effect.{with_descriptor, with_change, with_changes, shown}

@@ -4,12 +4,13 @@ use Rattle.std.specs.List.{AllByRecursion as Every}
 use Rattle.std.specs.Map.{lookup, keys_of, set_value}
 use Rattle.std.proofs.lemmas.Bool.{and_parts, or_parts, not-true, leb-true, leb-false}
 use Rattle.pc_message.specs.declared.descriptor.Descriptor.{Descriptor}
-use Rattle.pc_history.specs.Table.{same, is_among}
-use Rattle.pc_history.specs.Legal.{AreDistinct}
-use Rattle.pc_history.proofs.Tables.{and3, same-sym}
-use Rattle.pc_history.proofs.Uids.{Every-weaker, Every-append, Every-filter}
-use Rattle.pc_history.proofs.Formed.{Ordered-filter, Ordered-push}
-use Rattle.pc_history.proofs.Numbers.{length-filter-le, total-le, total-filter}
+use Rattle.pc_tables.specs.Table.{same, is_among}
+use Rattle.pc_tables.specs.Order.{AreDistinct}
+use Rattle.pc_tables.proofs.Booleans.{and3}
+use Rattle.pc_tables.proofs.Table.{same-sym}
+use Rattle.pc_tables.proofs.Lists.{Every-weaker, Every-append, Every-filter, length-filter-le}
+use Rattle.pc_tables.proofs.Order.{Ordered-filter, Ordered-push}
+use Rattle.pc_tables.proofs.Totals.{total-le, total-filter}
 use Rattle.pc_cache_history.specs.declared.limits.TheConstants.{MOST_CACHED, MOST_DESCRIPTORS, MOST_QUEUED, LAST_QUEUED}
 use Rattle.pc_cache_history.specs.declared.item.Item.{Item}
 use Rattle.pc_cache_history.specs.declared.entry.CacheEntry.{CacheEntry}

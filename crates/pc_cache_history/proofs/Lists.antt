@@ -5,8 +5,8 @@ use Rattle.std.proofs.lemmas.Bool.{cases_order, and_parts, not-true, eqb-true}
 use Rattle.pc_message.specs.declared.descriptor.Descriptor.{Descriptor}
 use Rattle.pc_message.specs.declared.descriptor.Change.{Change}
 use Rattle.pc_message.specs.declared.descriptor.Change.TheVariants.{Present, Expunged}
-use Rattle.pc_history.proofs.Uids.{Every-weaker, filter-agree}
-use Rattle.pc_history.proofs.Formed.{Ordered-filter}
+use Rattle.pc_tables.proofs.Lists.{Every-weaker, filter-agree}
+use Rattle.pc_tables.proofs.Order.{Ordered-filter}
 use Rattle.pc_cache_history.specs.Entry.{uid_of, shown_by}
 use Rattle.pc_cache_history.specs.Record.{descriptor_at}
 use Rattle.pc_cache_history.specs.Effect.{other_descriptors, with_change, with_changes}

@@ -4,11 +4,11 @@ use Rattle.std.specs.List.{AllByRecursion as Every}
 use Rattle.std.proofs.lemmas.Bool.{or_parts}
 use Rattle.pc_message.specs.declared.descriptor.Descriptor.{Descriptor}
 use Rattle.pc_message.specs.declared.descriptor.Change.{Change}
-use Rattle.pc_history.specs.Table.{same, is_among, total}
-use Rattle.pc_history.specs.Legal.{AreDistinct}
-use Rattle.pc_history.proofs.Tables.{same-true, same-refl}
-use Rattle.pc_history.proofs.Uids.{Every-weaker, filter-agree, filter-true, filter-false}
-use Rattle.pc_history.proofs.Numbers.{total-append}
+use Rattle.pc_tables.specs.Table.{same, is_among, total}
+use Rattle.pc_tables.specs.Order.{AreDistinct}
+use Rattle.pc_tables.proofs.Table.{same-true, same-refl}
+use Rattle.pc_tables.proofs.Lists.{Every-weaker, filter-agree, filter-true, filter-false}
+use Rattle.pc_tables.proofs.Totals.{total-append}
 use Rattle.pc_cache_history.specs.declared.entry.CacheEntry.{CacheEntry}
 use Rattle.pc_cache_history.specs.declared.entry.CacheEntry.TheVariants.{Begin, Synced, Took, Kept, Queue, Answered}
 use Rattle.pc_cache_history.specs.Effect.{with_changes}

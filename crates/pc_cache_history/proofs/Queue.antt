@@ -3,8 +3,8 @@ use Rattle.std.proofs.Common.{◌≡◌, ℕ, suc, ◌+◌, ◌<◌, ◌≤◌, 
 use Rattle.std.specs.List.{AllByRecursion as Every, list_any}
 use Rattle.std.proofs.lemmas.Bool.{eqb-true}
 use Rattle.std.proofs.lemmas.List.Elements.{filter-append}
-use Rattle.pc_history.specs.Table.{numbers}
-use Rattle.pc_history.proofs.Uids.{Every-weaker, filter-agree, filter-true}
+use Rattle.pc_tables.specs.Table.{numbers}
+use Rattle.pc_tables.proofs.Lists.{Every-weaker, filter-agree, filter-true}
 use Rattle.pc_cache_history.specs.declared.item.Item.{Item}
 use Rattle.pc_cache_history.specs.declared.entry.CacheEntry.{CacheEntry}
 use Rattle.pc_cache_history.specs.declared.entry.CacheEntry.TheVariants.{Synced, Queue, Answered}

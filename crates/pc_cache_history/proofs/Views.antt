@@ -3,8 +3,8 @@ use Rattle.std.proofs.Common.{◌≡◌, ℕ, suc, ◌==◌, true, false, cond, 
 use Rattle.std.specs.List.{list_any}
 use Rattle.std.proofs.lemmas.Bool.{eqb-true, or_parts}
 use Rattle.pc_message.specs.declared.descriptor.Descriptor.{Descriptor}
-use Rattle.pc_history.specs.Flags.{flags_with}
-use Rattle.pc_history.proofs.Tables.{same-refl}
+use Rattle.pc_message.specs.Flags.{flags_with}
+use Rattle.pc_tables.proofs.Table.{same-refl}
 use Rattle.pc_cache_history.specs.declared.item.Item.{Item}
 use Rattle.pc_cache_history.specs.declared.entry.CacheEntry.TheVariants.{Queue, Answered}
 use Rattle.pc_cache_history.specs.Record.{descriptor_at, is_for}

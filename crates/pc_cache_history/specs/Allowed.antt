@@ -3,7 +3,7 @@ use Rattle.std.specs.Prelude.{ℕ, ◌+◌, ◌==◌, ◌≤◌, Bool, true, not
 use Rattle.std.specs.List.{list_any, list_all}
 use Rattle.pc_message.specs.declared.descriptor.Change.{Change}
 use Rattle.pc_message.specs.declared.descriptor.Change.TheVariants.{Present, Expunged}
-use Rattle.pc_history.specs.Table.{same, total}
+use Rattle.pc_tables.specs.Table.{same, total}
 use Rattle.pc_cache_history.specs.declared.limits.TheConstants.{MOST_CACHED, MOST_DESCRIPTORS, MOST_TAKEN, MOST_TAKEN_BYTES, MOST_NAMES, MOST_QUEUED, LAST_QUEUED}
 use Rattle.pc_cache_history.specs.declared.entry.CacheEntry.{CacheEntry}
 use Rattle.pc_cache_history.specs.declared.entry.CacheEntry.TheVariants.{Begin, Synced, Took, Kept, Queue, Answered}

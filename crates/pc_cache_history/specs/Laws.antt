@@ -5,9 +5,9 @@ use Rattle.std.specs.List.{AllByRecursion, filter, list_any}
 use Rattle.std.specs.Map.{keys_of}
 use Rattle.pc_message.specs.declared.descriptor.Descriptor.{Descriptor}
 use Rattle.pc_message.specs.declared.descriptor.Change.{Change}
-use Rattle.pc_history.specs.Flags.{flags_with}
-use Rattle.pc_history.specs.Table.{same, is_among, numbers, total}
-use Rattle.pc_history.specs.Legal.{AreDistinct}
+use Rattle.pc_message.specs.Flags.{flags_with}
+use Rattle.pc_tables.specs.Table.{same, is_among, numbers, total}
+use Rattle.pc_tables.specs.Order.{AreDistinct}
 use Rattle.pc_cache_history.specs.declared.item.Item.{Item}
 use Rattle.pc_cache_history.specs.declared.entry.CacheEntry.{CacheEntry}
 use Rattle.pc_cache_history.specs.declared.entry.CacheEntry.TheVariants.{Begin, Synced, Took, Kept, Queue, Answered}

@@ -3,7 +3,7 @@ use Rattle.std.specs.Prelude.{ℕ, ◌==◌, Bool, true, ◌&&◌, List, [], Opt
 use Rattle.std.specs.List.{find}
 use Rattle.std.specs.Map.{lookup}
 use Rattle.pc_message.specs.declared.descriptor.Descriptor.{Descriptor}
-use Rattle.pc_history.specs.Table.{same}
+use Rattle.pc_tables.specs.Table.{same}
 use Rattle.pc_cache_history.specs.declared.item.Item.{Item}
 
 -- the birth of the client; whether its copies were begun and the repository hasn't yet begun its lists anew; the mailboxes,

@@ -2,7 +2,7 @@
 use Rattle.std.specs.Prelude.{ℕ, suc, true, false, List, [], ◌∷◌, ◌++◌, is_some, if◌then◌else◌}
 use Rattle.std.specs.List.{filter}
 use Rattle.std.specs.Map.{lookup, set_value}
-use Rattle.pc_history.specs.Table.{same, is_among}
+use Rattle.pc_tables.specs.Table.{same, is_among}
 use Rattle.pc_cache_history.specs.declared.entry.CacheEntry.{CacheEntry}
 use Rattle.pc_cache_history.specs.declared.entry.CacheEntry.TheVariants.{Begin, Synced, Took, Kept, Queue, Answered}
 use Rattle.pc_cache_history.specs.Record.{CacheRecord, descriptors_in}

@@ -4,7 +4,7 @@ use Rattle.std.specs.Option.{option_map}
 use Rattle.pc_message.specs.declared.descriptor.Descriptor.{Descriptor}
 use Rattle.pc_message.specs.declared.descriptor.Change.{Change}
 use Rattle.pc_message.specs.declared.descriptor.Change.TheVariants.{Present}
-use Rattle.pc_history.specs.Flags.{flags_with}
+use Rattle.pc_message.specs.Flags.{flags_with}
 use Rattle.pc_cache_history.specs.declared.item.Item.{Item}
 use Rattle.pc_cache_history.specs.Record.{is_for}
 use Rattle.pc_cache_history.specs.Known.{Known}

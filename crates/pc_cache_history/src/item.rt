@@ -5,7 +5,7 @@ ghost use Rattle.pc_cache_history.specs.Record.{is_for};
 ghost use Rattle.pc_cache_history.specs.View.{flags_with_item};
 
 use pc_base::Name;
-use pc_history::with_flag;
+use pc_message::with_flag;
 
 /// A change of a flag that was queued and isn't answered.
 #[derive(Clone, Copy)]

@@ -1,7 +1,8 @@
 -- How a run of calls goes on, as to what a crash at each of its moments leaves.
-use Rattle.std.proofs.Common.{◌≡◌, ◌+◌, inl, inr, ⊎_elim, ℕ, arith}
+use Rattle.std.proofs.Common.{◌≡◌, ◌∙◌, ◌+◌, ◌≤◌, ap, inl, inr, ⊎_elim, ℕ, arith}
 use Rattle.pc_disk.specs.Images.{Images}
-use Rattle.pc_disk.specs.Outcomes.{Elapses, LeavesOnly}
+use Rattle.pc_disk.specs.Outcomes.{Elapses, LeavesFirst, LeavesOnly}
+use Rattle.pc_disk.specs.Outcomes.LeavesFirst.{ended, went_on}
 
 module _ {D : Type 0} (moment : D → ℕ) (left_since : D → ℕ → Images → Type 0) where
   -- before the first call
@@ -43,3 +44,21 @@ module _ {D : Type 0} (moment : D → ℕ) (left_since : D → ℕ → Images �
     each = λ left since. follows left (run.each left since);
     before = λ earlier left le since. ⊎_elim (λ past. inl past) (λ has. inr (follows left has)) (run.before earlier left le since);
   }
+
+  -- a run that ended with its first calls
+  pub first_alone : (calls : ℕ) (old new : D) (P Q : Images → Type 0) → LeavesFirst moment left_since calls old new P Q → moment new ≤ moment old + calls → LeavesOnly moment left_since old new P
+  first_alone calls old new P Q (ended few run) most = run
+  first_alone calls old new P Q (went_on mid at less first second) most = absurd (omega (arith, at, less, most))
+
+  -- what the first calls of a run and the others leave, where the second property follows from the first
+  pub first_or_later : (calls : ℕ) (old new : D) (P Q : Images → Type 0) → ((left : Images) → P left → Q left) → LeavesFirst moment left_since calls old new P Q → LeavesOnly moment left_since old new Q
+  first_or_later calls old new P Q follows (ended few run) = weakened old new P Q follows run
+  first_or_later calls old new P Q follows (went_on mid at less first second) = followed old mid new Q (weakened old mid P Q follows first) second
+
+  -- properties that follow, for a run that began with no device call
+  pub first_weakened : (calls : ℕ) (old mid new : D) (P P' Q Q' : Images → Type 0) → LeavesOnly moment left_since old mid P' → moment mid ≡ moment old → ((left : Images) → P left → P' left) → ((left : Images) → Q left → Q' left)
+      → LeavesFirst moment left_since calls mid new P Q → LeavesFirst moment left_since calls old new P' Q'
+  first_weakened calls old mid new P P' Q Q' begun same first later (ended few run) =
+      ended (omega (arith, same, few)) (followed old mid new P' begun (weakened mid new P P' first run))
+  first_weakened calls old mid new P P' Q Q' begun same first later (went_on step at less run rest) =
+      went_on step (at ∙ ap (λ (n : ℕ). n + calls) same) less (followed old mid step P' begun (weakened mid step P P' first run)) (weakened step new Q Q' later rest)

@@ -1,5 +1,5 @@
 -- What a crash may leave, now or since a moment, and how calls change that.
-use Rattle.std.specs.Prelude.{◌≡◌, ◌⊎◌, ◌↔◌, ℕ, ◌≤◌}
+use Rattle.std.specs.Prelude.{◌≡◌, ◌⊎◌, ◌↔◌, ℕ, ◌+◌, ◌<◌, ◌≤◌}
 use Rattle.pc_disk.specs.Images.{Images}
 
 -- a crash leaves this and nothing else
@@ -38,3 +38,13 @@ pub record LeavesOnly {D : Type 0} (moment : D → ℕ) (left_since : D → ℕ 
   pub each : (left : Images) → left_since new (moment old) left → P left
   -- for a run that began earlier
   pub before : (earlier : ℕ) (left : Images) → earlier ≤ moment old → left_since new earlier left → left_since old earlier left ⊎ P left
+
+-- the first device calls of a run, so many of them, leave images with one property, and those behind them
+-- images with another: the run ended with the first calls, or a disk in the middle had made just these
+pub data LeavesFirst {D : Type 0} (moment : D → ℕ) (left_since : D → ℕ → Images → Type 0) (calls : ℕ)
+    (old new : D) (P Q : Images → Type 0) : Type 0 where
+  ended : moment new ≤ moment old + calls → LeavesOnly moment left_since old new P
+      → LeavesFirst moment left_since calls old new P Q
+  went_on : (mid : D) → moment mid ≡ moment old + calls → moment mid < moment new
+      → LeavesOnly moment left_since old mid P → LeavesOnly moment left_since mid new Q
+      → LeavesFirst moment left_since calls old new P Q

@@ -125,7 +125,9 @@ pub trait Disk {
         ensures spare_bytes { spare_bytes self.old ≤ spare_bytes self.new };
 
     /// After it a crash leaves what a read gives. Where it fails, a crash may leave what it might
-    /// have left before. It takes no memory.
+    /// have left before, and a later sync answers Ok only where what wasn't synced was written
+    /// again: that a failed sync is forgotten below, as Linux does, is for the disk to make good,
+    /// or it fails from then on. It takes no memory.
     fn sync(&mut self) -> Result<(), Failed>
         requires { 0 < spare_calls self.old }
         ensures settled { tells → OnOk result (Only (seen self.old) (may_leave self.new)) }

@@ -1,15 +1,16 @@
 -- What a commit to the store is to the desk.
 use Rattle.std.proofs.Common.{◌≡◌, ◌⊎◌, ℕ, nat_le, Bool, true, false, List, [], ◌∷◌, ◌++◌, length, Option, None, Some, Ok, Err, inl, inr, refl, sym, ap, subst, ◌∙◌, if◌then◌else◌}
 use Rattle.pc_base.specs.Stream.{Rose}
-use Rattle.pc_history.specs.declared.entry.Entry.{Entry}
-use Rattle.pc_history.specs.History.{start, ◌▸◌, ◌▸▸◌}
-use Rattle.pc_spelling.specs.Spelling.{spelled_entry}
-use Rattle.pc_holdings.specs.State.{State}
+use Rattle.pc_account_history.specs.declared.entry.Entry.{Entry}
+use Rattle.pc_account_history.specs.History.{start, ◌▸◌, ◌▸▸◌}
+use Rattle.pc_account_spelling.specs.Spelling.{spelled_entry}
+use Rattle.pc_account_holdings.specs.State.{State}
 use Rattle.pc_account.specs.contracts.machine.AccountMachine.TheImpl.{ghosts as machine}
-use Rattle.pc_store.specs.declared.fault.CommitFault.{CommitFault}
-use Rattle.pc_store.specs.declared.fault.CommitFault.TheVariants as commit
+use Rattle.pc_base.specs.declared.store_fault.CommitFault.{CommitFault}
+use Rattle.pc_base.specs.declared.store_fault.CommitFault.TheVariants as commit
+use Rattle.pc_base.specs.CommitFault.{FullWhere, OnDevice}
 use Rattle.pc_store.specs.Store.{StoreState}
-use Rattle.pc_store.specs.Commit.{CommitLeaves, FullWhere, OnDevice, doubt_after, is_full}
+use Rattle.pc_store.specs.Commit.{CommitLeaves, doubt_after, is_full}
 use Rattle.pc_session.specs.Desk.{Are, Commits}
 use Rattle.pc_house.specs.Base.{BaseOf}
 use Rattle.pc_house.specs.Desk.{DeskValue, IsDesk, IsKept, desk_of, history_of, told_by}

@@ -1,7 +1,7 @@
 -- What drawing a session number is to the desk.
 use Rattle.std.proofs.Common.{◌≡◌, ℕ, suc, ◌+◌, ◌<◌, ◌≤◌, Bool, true, List, Ok, refl, ap, subst, ◌∙◌, arith}
-use Rattle.pc_history.specs.declared.entry.Entry.{Entry}
-use Rattle.pc_holdings.specs.State.{State}
+use Rattle.pc_account_history.specs.declared.entry.Entry.{Entry}
+use Rattle.pc_account_holdings.specs.State.{State}
 use Rattle.pc_store.specs.Store.{StoreState}
 use Rattle.pc_session.specs.declared.access.Latest.{Latest}
 use Rattle.pc_session.specs.Desk.{Are, Same, Takes, LAST_SESSION, latest_with}

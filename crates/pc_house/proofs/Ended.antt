@@ -1,10 +1,10 @@
 -- What becomes of the latest sessions.
 use Rattle.std.proofs.Common.{◌≡◌, ℕ, Bool, true, false, cond, List, Option, None, Some, refl, sym, ap, ◌∙◌, if◌then◌else◌}
 use Rattle.std.specs.Option.{option_map}
-use Rattle.pc_history.specs.declared.entry.Entry.{Entry}
-use Rattle.pc_history.specs.declared.entry.Entry.TheVariants.{DropClient, MakeMailbox}
-use Rattle.pc_history.specs.Table.{same}
-use Rattle.pc_history.proofs.Tables.{same-true}
+use Rattle.pc_account_history.specs.declared.entry.Entry.{Entry}
+use Rattle.pc_account_history.specs.declared.entry.Entry.TheVariants.{DropClient, MakeMailbox}
+use Rattle.pc_tables.specs.Table.{same}
+use Rattle.pc_tables.proofs.Table.{same-true}
 use Rattle.pc_session.specs.declared.access.Latest.{Latest}
 use Rattle.pc_session.specs.Desk.{ended_if, latest_after, latest_without}
 use Rattle.pc_house.specs.Sessions.{dropped_by, latest_but, latest_in}

@@ -4,24 +4,25 @@ use Rattle.std.specs.Option.{option_map_or}
 use Rattle.pc_base.specs.declared.refusal.LimitWord.{LimitWord}
 use Rattle.pc_base.specs.declared.refusal.Refusal.{Refusal}
 use Rattle.pc_base.specs.declared.refusal.Refusal.TheVariants.{LimitReached, MailboxExists}
-use Rattle.pc_history.specs.Allowed.{inbox, is_mailbox}
-use Rattle.pc_history.specs.declared.entry.Entry.{Entry}
-use Rattle.pc_history.specs.declared.entry.Entry.TheVariants.{MakeMailbox, Password}
-use Rattle.pc_history.specs.History.{History, ◌▸◌, known}
-use Rattle.pc_history.specs.Limits.{limit_passed}
-use Rattle.pc_history.specs.Table.{same, is_among, other_names}
-use Rattle.pc_history.proofs.Tables.{same-refl}
-use Rattle.pc_account.specs.Answers.{Tells}
+use Rattle.pc_account_history.specs.Allowed.{is_mailbox}
+use Rattle.pc_account_history.specs.declared.entry.Entry.{Entry}
+use Rattle.pc_account_history.specs.declared.entry.Entry.TheVariants.{MakeMailbox, Password}
+use Rattle.pc_account_history.specs.History.{History, ◌▸◌, known}
+use Rattle.pc_account_history.specs.Limits.{limit_passed}
+use Rattle.pc_tables.specs.Table.{same, is_among, other_names}
+use Rattle.pc_tables.proofs.Table.{same-refl}
 use Rattle.pc_account.specs.Digest.{digest_of}
 use Rattle.pc_account.specs.Plan.{planned, within_limits}
-use Rattle.pc_account.specs.declared.wish.AskFault.TheVariants as ask
+use Rattle.pc_base.specs.declared.ask_fault.AskFault.TheVariants as ask
 use Rattle.pc_log.specs.Making.{NoneDue, OnlyLastDue}
-use Rattle.pc_store.specs.declared.fault.StoreFault.{StoreFault}
-use Rattle.pc_store.specs.declared.fault.StoreFault.TheVariants as store
-use Rattle.pc_store.specs.declared.fault.StoreFault.TheVariants.{Malformed, NotMade}
+use Rattle.pc_base.specs.declared.store_fault.StoreFault.{StoreFault}
+use Rattle.pc_base.specs.declared.store_fault.StoreFault.TheVariants as store
+use Rattle.pc_base.specs.declared.store_fault.StoreFault.TheVariants.{Malformed, NotMade}
 use Rattle.pc_store.specs.Opening.{IfDevice, MakesWhereDue, MakingCalls}
-use Rattle.pc_store.specs.declared.fault.CommitFault.{CommitFault}
-use Rattle.pc_store.specs.declared.fault.CommitFault.TheVariants.{Full, Device, Memory}
+use Rattle.pc_base.specs.declared.store_fault.CommitFault.{CommitFault}
+use Rattle.pc_base.specs.declared.store_fault.CommitFault.TheVariants.{Full, Device, Memory}
+use Rattle.pc_base.specs.Name.{inbox}
+use Rattle.pc_base.specs.AskFault.{Tells}
 use Rattle.pc_session.specs.Desk.{Commits, DeskState}
 use Rattle.pc_session.specs.Repository.{knows}
 use Rattle.pc_session.proofs.Coming.{Same-refl}

@@ -3,11 +3,11 @@ use Rattle.std.proofs.Common.{◌≡◌, ◌⊎◌, ℕ, suc, nat_lt, Bool, true
 use Rattle.std.specs.Option.{option_and_then}
 use Rattle.std.proofs.lemmas.List.{length-append}
 use Rattle.pc_base.specs.Stream.{Rose}
-use Rattle.pc_history.specs.declared.entry.Entry.{Entry}
-use Rattle.pc_history.specs.History.{History, start, ◌▸◌, ◌▸▸◌}
-use Rattle.pc_holdings.specs.State.{State}
-use Rattle.pc_store.specs.declared.fault.StoreFault.{StoreFault}
-use Rattle.pc_store.specs.declared.fault.StoreFault.TheVariants as store
+use Rattle.pc_account_history.specs.declared.entry.Entry.{Entry}
+use Rattle.pc_account_history.specs.History.{History, start, ◌▸◌, ◌▸▸◌}
+use Rattle.pc_account_holdings.specs.State.{State}
+use Rattle.pc_base.specs.declared.store_fault.StoreFault.{StoreFault}
+use Rattle.pc_base.specs.declared.store_fault.StoreFault.TheVariants as store
 use Rattle.pc_store.specs.Store.{StoreState, SameHistory}
 use Rattle.pc_store.specs.Opening.{IsOutside, OnDevice}
 use Rattle.pc_session.specs.declared.access.Latest.{Latest}

@@ -1,10 +1,10 @@
 -- The room of a history is the room of its store.
 use Rattle.std.proofs.Common.{◌≡◌, ℕ, ◌+◌, ◌-◌, ◌≤◌, min, true, false, nat_lt, nat_le, ◌&&◌, ◌||◌, not, length, sym, ap, ◌∙◌, arith}
-use Rattle.pc_history.specs.declared.entry.Entry.{Entry}
-use Rattle.pc_history.specs.Record.{AccountRecord}
-use Rattle.pc_history.specs.History.{start, next}
-use Rattle.pc_spelling.specs.Spelling.{spelled_entry}
-use Rattle.pc_holdings.specs.State.{State}
+use Rattle.pc_account_history.specs.declared.entry.Entry.{Entry}
+use Rattle.pc_account_history.specs.Record.{AccountRecord}
+use Rattle.pc_account_history.specs.History.{start, next}
+use Rattle.pc_account_spelling.specs.Spelling.{spelled_entry}
+use Rattle.pc_account_holdings.specs.State.{State}
 use Rattle.pc_account.specs.contracts.machine.AccountMachine.TheImpl.{ghosts as machine}
 use Rattle.pc_store.specs.Store.{StoreState, next_number, room_of as room_in, trail_bytes as bytes_in}
 use Rattle.pc_store.specs.Commit.{is_full}

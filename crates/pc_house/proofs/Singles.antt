@@ -4,9 +4,10 @@ use Rattle.std.proofs.Math.ListN.{set}
 use Rattle.std.specs.List.{position_or_len}
 use borrow.Author.Tests.{ltb-true, ltb-false}
 use Rattle.std.specs.Map.{lookup, set_value}
-use Rattle.pc_history.specs.Table.{same}
-use Rattle.pc_history.proofs.Tables.{lookup-set_value, same-refl, same-true, some-none, some-same}
-use Rattle.pc_mailbox.proofs.Places.{lookup-found, set-found}
+use Rattle.pc_tables.specs.Table.{same}
+use Rattle.pc_tables.proofs.Table.{lookup-set_value, same-refl, same-true}
+use Rattle.pc_tables.proofs.Options.{some-none, some-same}
+use Rattle.pc_tables.proofs.Places.{lookup-found, set-found}
 use Rattle.pc_base.specs.declared.refusal.Refusal.TheVariants.{BadUserOrPassword}
 use Rattle.pc_reply.specs.declared.head.Head.TheVariants as head
 use Rattle.pc_reply.specs.declared.reply.Reply.{Reply}

@@ -1,20 +1,20 @@
 -- What is true of a desk's store once it was opened, and after a commit.
 use Rattle.std.proofs.Common.{◌≡◌, ℕ, zero, suc, ◌≤◌, true, false, true≢false, List, [], ◌∷◌, ◌++◌, slice_get, None, IfSome, Result, Ok, Err, refl, sym, ap, subst, ◌∙◌}
 use Rattle.std.specs.List.{AllByRecursion as Every}
-use Rattle.pc_history.specs.declared.entry.Entry.{Entry}
-use Rattle.pc_history.specs.Record.{AccountRecord}
-use Rattle.pc_history.specs.History.{History, start, ◌▸◌, ◌▸▸◌}
-use Rattle.pc_history.specs.Legal.{IsLegal}
-use Rattle.pc_spelling.specs.RecordForm.{CanBeSaved}
-use Rattle.pc_holdings.specs.State.{State, StandsFor, step}
-use Rattle.pc_records.specs.Legal.{accepts}
-use Rattle.pc_records.specs.Numbered.{suits, numbered}
-use Rattle.pc_records.specs.Recorded.{numbered_is_legal}
+use Rattle.pc_account_history.specs.declared.entry.Entry.{Entry}
+use Rattle.pc_account_history.specs.Record.{AccountRecord}
+use Rattle.pc_account_history.specs.History.{History, start, ◌▸◌, ◌▸▸◌}
+use Rattle.pc_account_history.specs.Legal.{IsLegal}
+use Rattle.pc_account_spelling.specs.RecordForm.{CanBeSaved}
+use Rattle.pc_account_holdings.specs.State.{State, StandsFor, step}
+use Rattle.pc_account_records.specs.Legal.{accepts}
+use Rattle.pc_account_records.specs.Numbered.{suits, numbered}
+use Rattle.pc_account_records.specs.Recorded.{numbered_is_legal}
 use Rattle.pc_account.specs.Following.{accepts-parts}
 use Rattle.pc_account.proofs.Standing.{StandsFor-step}
 use Rattle.pc_account.specs.contracts.machine.AccountMachine.TheImpl.{ghosts as machine}
-use Rattle.pc_store.specs.declared.fault.CommitFault.{CommitFault}
-use Rattle.pc_store.specs.declared.fault.CommitFault.TheVariants as commit
+use Rattle.pc_base.specs.declared.store_fault.CommitFault.{CommitFault}
+use Rattle.pc_base.specs.declared.store_fault.CommitFault.TheVariants as commit
 use Rattle.pc_store.specs.History.{AreAllowed, IsReplay, after}
 use Rattle.pc_store.specs.Store.{StoreState}
 use Rattle.pc_store.specs.Commit.{CommitLeaves}

@@ -3,9 +3,9 @@ use Rattle.std.proofs.Common.{◌≡◌, ℕ, zero, suc, ◌+◌, ◌<◌, ◌==
 use Rattle.std.specs.Borrow.{Bor}
 use Rattle.std.proofs.lemmas.Bool.{ltb-true, ltb-false}
 use Rattle.std.proofs.lemmas.Option.{slice_get_past, slice_get_read}
-use Rattle.pc_history.specs.declared.entry.Entry.{Entry}
-use Rattle.pc_history.specs.History.{History, ◌▸◌, ◌▸▸◌, next}
-use Rattle.pc_spelling.specs.Spelling.{spelled_entry}
+use Rattle.pc_account_history.specs.declared.entry.Entry.{Entry}
+use Rattle.pc_account_history.specs.History.{History, ◌▸◌, ◌▸▸◌, next}
+use Rattle.pc_account_spelling.specs.Spelling.{spelled_entry}
 use Rattle.pc_log.specs.Area.{bytes_of}
 use Rattle.pc_session.specs.Desk.{trail_count, trail_bytes, entry_at}
 use Rattle.pc_session.proofs.Kept.{none_ahead}

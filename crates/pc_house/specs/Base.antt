@@ -5,10 +5,10 @@ use Rattle.std.proofs.Common.{sym, ◌∙◌}
 use Rattle.std.proofs.Math.Logic.{∥∥₁_elim}
 use mathlib.Core.HLevel.{is_prop→PathP}
 use mathlib.Core.Logic.{∥∥₁_prop}
-use Rattle.pc_history.specs.Record.{AccountRecord}
-use Rattle.pc_spelling.specs.Spelling.{spelled_record}
-use Rattle.pc_spelling.specs.RecordForm.{CanBeSaved}
-use Rattle.pc_spelling.proofs.RecordLaws.{one-record}
+use Rattle.pc_account_history.specs.Record.{AccountRecord}
+use Rattle.pc_account_spelling.specs.Spelling.{spelled_record}
+use Rattle.pc_account_spelling.specs.RecordForm.{CanBeSaved}
+use Rattle.pc_account_spelling.proofs.RecordLaws.{one-record}
 
 -- the record can be saved, as these bytes
 pub record IsSavedAs (bytes : List ℕ) (r : AccountRecord) : Type 0 where

@@ -1,12 +1,12 @@
 -- What a desk holds, and what it tells of it.
 use Rattle.std.specs.Prelude.{◌≡◌, ℕ, ◌≤◌, false, List, None, IsTrue}
 use Rattle.std.specs.List.{AllByRecursion}
-use Rattle.pc_history.specs.declared.entry.Entry.{Entry}
-use Rattle.pc_history.specs.Record.{AccountRecord}
-use Rattle.pc_history.specs.History.{History, start, ◌▸▸◌}
-use Rattle.pc_history.specs.Legal.{IsLegal}
-use Rattle.pc_spelling.specs.EntryForm.{entry_fits}
-use Rattle.pc_holdings.specs.State.{State, StandsFor}
+use Rattle.pc_account_history.specs.declared.entry.Entry.{Entry}
+use Rattle.pc_account_history.specs.Record.{AccountRecord}
+use Rattle.pc_account_history.specs.History.{History, start, ◌▸▸◌}
+use Rattle.pc_account_history.specs.Legal.{IsLegal}
+use Rattle.pc_account_spelling.specs.EntryForm.{entry_fits}
+use Rattle.pc_account_holdings.specs.State.{State, StandsFor}
 use Rattle.pc_store.specs.Store.{StoreState}
 use Rattle.pc_session.specs.declared.access.Latest.{Latest}
 use Rattle.pc_session.specs.Desk.{DeskState, LAST_SESSION}

@@ -2,19 +2,20 @@
 use Rattle.std.specs.Prelude.{◌≡◌, ℕ, true, false, List, [], Option, None, Some, Result, Ok, Err}
 use Rattle.pc_base.specs.declared.refusal.Refusal.{Refusal}
 use Rattle.pc_base.specs.declared.refusal.Refusal.TheVariants.{MailboxExists, ReadOnly}
-use Rattle.pc_history.specs.Allowed.{inbox, is_mailbox}
-use Rattle.pc_history.specs.declared.entry.Entry.{Entry}
-use Rattle.pc_history.specs.declared.entry.Entry.TheVariants.{MakeMailbox, Password}
-use Rattle.pc_history.specs.History.{History, ◌▸◌, known, new_account}
-use Rattle.pc_history.specs.Record.{empty_record}
-use Rattle.pc_spelling.specs.Spelling.{spelled_record}
-use Rattle.pc_holdings.specs.State.{new_state}
+use Rattle.pc_account_history.specs.Allowed.{is_mailbox}
+use Rattle.pc_account_history.specs.declared.entry.Entry.{Entry}
+use Rattle.pc_account_history.specs.declared.entry.Entry.TheVariants.{MakeMailbox, Password}
+use Rattle.pc_account_history.specs.History.{History, ◌▸◌, known, new_account}
+use Rattle.pc_account_history.specs.Record.{empty_record}
+use Rattle.pc_account_spelling.specs.Spelling.{spelled_record}
+use Rattle.pc_account_holdings.specs.State.{new_state}
 use Rattle.pc_account.specs.Digest.{digest_of}
 use Rattle.pc_account.specs.Plan.{planned}
 use Rattle.pc_account.specs.declared.wish.Wish.{Wish}
 use Rattle.pc_account.specs.declared.wish.Wish.TheVariants as wish
-use Rattle.pc_store.specs.declared.fault.CommitFault.{CommitFault}
-use Rattle.pc_store.specs.declared.fault.CommitFault.TheVariants.{Full, Device, Memory}
+use Rattle.pc_base.specs.declared.store_fault.CommitFault.{CommitFault}
+use Rattle.pc_base.specs.declared.store_fault.CommitFault.TheVariants.{Full, Device, Memory}
+use Rattle.pc_base.specs.Name.{inbox}
 use Rattle.pc_store.specs.declared.fault.OpenFault.{OpenFault}
 use Rattle.pc_session.specs.Desk.{DeskState, Failed, Made, Same, SameHistory, has_room}
 use Rattle.pc_session.specs.Repository.{knows}

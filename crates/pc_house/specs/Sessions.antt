@@ -2,9 +2,9 @@
 use Rattle.std.specs.Prelude.{ℕ, Bool, List, Option, None, Some, if◌then◌else◌}
 use Rattle.std.specs.Option.{option_map_or}
 use Rattle.std.specs.Map.{lookup}
-use Rattle.pc_history.specs.declared.entry.Entry.{Entry}
-use Rattle.pc_history.specs.declared.entry.Entry.TheVariants.{DropClient, MakeMailbox}
-use Rattle.pc_history.specs.Table.{same}
+use Rattle.pc_account_history.specs.declared.entry.Entry.{Entry}
+use Rattle.pc_account_history.specs.declared.entry.Entry.TheVariants.{DropClient, MakeMailbox}
+use Rattle.pc_tables.specs.Table.{same}
 use Rattle.pc_session.specs.declared.access.Latest.{Latest}
 
 -- the latest session of a client

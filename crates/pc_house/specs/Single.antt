@@ -4,7 +4,7 @@ use Rattle.std.proofs.Common.{refl}
 use Rattle.std.specs.List.{AllByRecursion}
 use Rattle.std.specs.Map.{lookup}
 use Rattle.std.specs.Option.{option_map}
-use Rattle.pc_history.specs.Table.{same}
+use Rattle.pc_tables.specs.Table.{same}
 use Rattle.pc_session.specs.Desks.{Desks}
 use Rattle.pc_house.specs.Desk.{DeskValue, told_by}
 

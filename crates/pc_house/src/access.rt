@@ -7,11 +7,11 @@ ghost use Rattle.pc_house.specs.Sessions.{dropped_by, dropped_if};
 use crate::desk::Desk;
 use crate::sessions::client_dropped;
 use pc_account::Account;
-use pc_base::{Name, Room};
+use pc_account_history::Entry;
+use pc_base::{CommitFault, Name, Room, StoreFault};
 use pc_disk::Disk;
-use pc_history::Entry;
 use pc_session::{DeskAccess, Latest, TakeFault};
-use pc_store::{CommitFault, Store, StoreFault};
+use pc_store::Store;
 use std::alloc::Global;
 
 /// The last number of a session.

@@ -1,7 +1,7 @@
 //! The desk itself.
 
 ghost use Rattle.std.specs.Prelude.{◌≡◌, ℕ, ◌<◌, ◌↔◌, ◌+◌, ◌≤◌, false, None, [], IfSome};
-ghost use Rattle.pc_spelling.specs.Spelling.{spelled_record};
+ghost use Rattle.pc_account_spelling.specs.Spelling.{spelled_record};
 ghost use Rattle.pc_house.specs.Base.{BaseOf, BaseOf-prop};
 
 use crate::sessions::Sessions;
@@ -35,7 +35,7 @@ impl<D: Disk + Drop> Model for Desk<D> {
 }
 
 impl<D: Disk + Drop> Desk<D> {
-    ghost use Rattle.pc_holdings.specs.State.{StandsFor};
+    ghost use Rattle.pc_account_holdings.specs.State.{StandsFor};
     ghost use Rattle.pc_disk.specs.Images.{Images};
     ghost use Rattle.pc_store.specs.Store.{OpensInDoubt};
     ghost use Rattle.pc_house.specs.Desk.{history_of};

@@ -2,13 +2,13 @@
 
 ghost use Rattle.std.specs.Prelude.{◌≡◌, ◌+◌, ◌^◌, ◌<◌, ◌≤◌, false, IfOk, IfErr, OnOk};
 ghost use Rattle.pc_base.specs.Stream.{Rose};
+ghost use Rattle.pc_base.specs.Name.{inbox};
+ghost use Rattle.pc_base.specs.CommitFault.{OnDevice};
 ghost use Rattle.pc_disk.specs.Images.{area_of};
 ghost use Rattle.pc_log.specs.Area.{is_made};
-ghost use Rattle.pc_history.specs.Allowed.{inbox};
-ghost use Rattle.pc_history.specs.History.{known};
-ghost use Rattle.pc_history.specs.Known.{Known};
+ghost use Rattle.pc_account_history.specs.History.{known};
+ghost use Rattle.pc_account_history.specs.Known.{Known};
 ghost use Rattle.pc_account.specs.Plan.{IsAtOnce, IsWish, planned};
-ghost use Rattle.pc_store.specs.Commit.{OnDevice};
 ghost use Rattle.pc_store.specs.Opening.{IfDevice, IsOutside};
 ghost use Rattle.pc_session.specs.Desk.{Are};
 ghost use Rattle.pc_house.specs.Desk.{DeskFails, FailsAhead, told_by};
@@ -16,11 +16,11 @@ ghost use Rattle.pc_house.specs.Enrolling.{Carries, Enrols, IsEnrolled, OnDisk, 
 ghost use Rattle.pc_house.specs.Sessions.{latest_in};
 
 use crate::desk::Desk;
-use pc_account::{AskFault, Wish, digest};
-use pc_base::{Name, Password, Refusal};
+use pc_account::{Wish, digest};
+use pc_base::{AskFault, CommitFault, Name, Password, Refusal};
 use pc_disk::Disk;
 use pc_session::DeskAccess;
-use pc_store::{CommitFault, OpenFault, Store};
+use pc_store::{OpenFault, Store};
 use std::alloc::Global;
 
 impl<D: Disk + Drop> Desk<D> {
@@ -63,7 +63,7 @@ impl<D: Disk + Drop> Desk<D> {
     {
         let digest = digest(&self.user, password);
         self.carry_out(alloc, &Wish::Password { digest })?;
-        let mailbox = inbox();
+        let mailbox = Name::inbox();
         self.carry_out(alloc, &Wish::MakeMailbox { mailbox })
     }
 
@@ -98,15 +98,5 @@ fn refused_as(why: Refusal) -> Result<(), CommitFault>
     match why {
         Refusal::MailboxExists => Ok(()),
         _ => Err(CommitFault::Full),
-    }
-}
-
-// The mailbox of new mail.
-fn inbox() -> Name
-    ensures { result ≡ inbox }
-{
-    match Name::read(b"inbox") {
-        Some(name) => name,
-        None => unreachable!(),
     }
 }

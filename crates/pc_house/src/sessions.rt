@@ -5,8 +5,8 @@ ghost use Rattle.pc_session.specs.Desk.{Are, ended_if, latest_with, latest_witho
 ghost use Rattle.pc_house.specs.Sessions.{dropped_by, latest_but, latest_in};
 
 use indexmap::IndexMap;
+use pc_account_history::Entry;
 use pc_base::{Memory, Name};
-use pc_history::Entry;
 use pc_session::Latest;
 use std::alloc::Global;
 use std::marker::Model;

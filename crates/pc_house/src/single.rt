@@ -2,7 +2,7 @@
 
 ghost use Rattle.std.specs.Prelude.{◌≡◌, None, Some, MatchOption};
 ghost use Rattle.std.specs.List.{position};
-ghost use Rattle.pc_history.specs.Table.{same};
+ghost use Rattle.pc_tables.specs.Table.{same};
 ghost use Rattle.pc_house.specs.Single.{AreUsers, desk_for};
 
 use crate::desk::Desk;

@@ -2,6 +2,7 @@
 use Rattle.std.proofs.Common.{◌≡◌, ℕ, ◌+◌, ◌<◌, ◌≤◌, true, cond, leb, ltb, eqb, ◌&&◌, List, [], ◌∷◌, ◌++◌, length, take, drop, Option, None, Some, Result, Ok, Err, refl, sym, ap, subst, ◌∙◌, append_assoc, append-nil, arith}
 use Rattle.std.specs.List.{flat_map, AllByRecursion}
 use Rattle.std.specs.Int.{w32, from_be_bytes}
+use Rattle.std.proofs.lemmas.Bool.Decides.{nat_tests}
 use Rattle.std.proofs.lemmas.Bool.{leb-true, ltb-true, le-leb, lt-ltb, and_parts, and_from}
 use Rattle.std.proofs.lemmas.List.{drop_at, length-append, length-take, length-drop, drop-drop, flat_map_more}
 use Rattle.std.proofs.lemmas.List.Concat.{flat_map-cons}
@@ -14,6 +15,9 @@ use Rattle.pc_log.proofs.Heads.{head_again}
 use Rattle.pc_log.proofs.Entries.{length-entry_bytes, guard_sized, TakesClosed, entry_again, closed_again}
 
 -- ---- what an entry that is read may be
+
+pub room_of : (reached : Reached) (count : ℕ) → has_room reached count ≡ true → (reached.entries < 65536) × (reached.bytes + count ≤ 16777216)
+room_of reached count room = grind (arith, nat_tests)
 
 number_lies : (place least most : ℕ) (bytes : List ℕ) (x : ℕ × List ℕ) → number_at w32 place least most bytes ≡ Ok x → (least ≤ x.0) × (x.0 ≤ most)
 number_lies place least most bytes x e =

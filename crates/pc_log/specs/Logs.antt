@@ -45,11 +45,6 @@ abbrev pub FailsAtFirstDue : {T : Type 0} → Result T AppendFault → ℕ → (
 FailsAtFirstDue (Ok value) moment due = (k : ℕ) → k < 4 → due (moment + k) → ⊥
 FailsAtFirstDue (Err fault) moment due = (last : ℕ) × (fault.call ≡ last + 1) × due (moment + last) × ((k : ℕ) → k < last → due (moment + k) → ⊥)
 
--- the fault names one of the first two calls
-abbrev pub IsEarly : {T : Type 0} → Result T AppendFault → Type 0
-IsEarly (Ok value) = ⊥
-IsEarly (Err fault) = fault.call ≤ 2
-
 -- a log stands as before where no device call was made
 pub stands-still : (log : LogState) (head : Head) (entries : List (List ℕ)) (seen seen' : Images) (may_leave may_leave' : Images → Type 0) (past past' : ℕ → Images → Type 0)
     → IsStill seen seen' may_leave may_leave' past past' → Stands log head entries seen may_leave → Stands log head entries seen' may_leave'

@@ -52,6 +52,7 @@ pub(crate) fn clear<D: Disk>(disk: &mut D, area: u8) -> Result<(), LogFault>
     ensures only_device { OnErr result (result ≡ Err LogFault.Device) }
     ensures faults { D.faults disk.old ≤ D.faults disk.new }
     ensures cause { OnErr result (Rose (D.faults disk.old) (D.faults disk.new)) }
+    ensures taken { D.taken disk.new ≤ D.taken disk.old + 1 }
     ensures spare_calls { D.spare_calls disk.old ≤ D.spare_calls disk.new + 4 }
     ensures spare_bytes { D.spare_bytes disk.old ≤ D.spare_bytes disk.new + 1 }
 {
@@ -81,6 +82,7 @@ fn close_and_cut<D: Disk>(disk: &mut D, area: u8) -> Result<(), StepFault>
     ensures ahead { D.tells_due → SameDue (D.moment disk.new) (D.due disk.old) (D.due disk.new) }
     ensures faults { D.faults disk.old ≤ D.faults disk.new }
     ensures cause { OnErr result (Rose (D.faults disk.old) (D.faults disk.new)) }
+    ensures taken { D.taken disk.new ≡ D.taken disk.old }
     ensures spare_calls { D.spare_calls disk.old ≤ D.spare_calls disk.new + 4 }
     ensures spare_bytes { D.spare_bytes disk.old ≤ D.spare_bytes disk.new + 1 }
 {
@@ -107,6 +109,7 @@ pub(crate) fn fill<D: Disk>(disk: &mut D, area: u8, bytes: &[u8]) -> Result<(), 
     ensures only_device { OnErr result (result ≡ Err LogFault.Device) }
     ensures faults { D.faults disk.old ≤ D.faults disk.new }
     ensures cause { OnErr result (Rose (D.faults disk.old) (D.faults disk.new)) }
+    ensures taken { D.taken disk.new ≡ D.taken disk.old }
 {
     put(disk, area, 1, bytes)?;
     put(disk, area, 0, &[1])?;

@@ -3,11 +3,11 @@
 ghost use Rattle.std.specs.Prelude.{◌≡◌, ◌⊎◌, ℕ, List, ◌+◌, ◌^◌, ◌<◌, ◌≤◌, [], ◌∷◌, ◌++◌, length, IfOk, IfErr, OnOk, OnErr};
 ghost use Rattle.pc_base.specs.Stream.{Rose};
 ghost use Rattle.pc_disk.specs.Images.{area_of, other_of, with_area, InArea};
-ghost use Rattle.pc_disk.specs.Outcomes.{Only, LeavesOnly, SameDue};
+ghost use Rattle.pc_disk.specs.Outcomes.{Only, LeavesFirst, LeavesOnly, SameDue};
 ghost use Rattle.pc_disk.specs.StepFaults.{LeadsOn};
 ghost use Rattle.pc_disk.specs.Steps.{step_calls};
 ghost use Rattle.pc_log.specs.Area.{Head, fresh, IsHead, IsTrail, Spelled};
-ghost use Rattle.pc_log.specs.Logs.{IsPrepared, Stands, Without, WithOrWithout, append_calls, FailsAtFirstDue, IsEarly};
+ghost use Rattle.pc_log.specs.Logs.{IsPrepared, Stands, Without, WithOrWithout, append_calls, FailsAtFirstDue};
 ghost use Rattle.pc_log.specs.Making.{OldUnmadeOrNew, clear_calls, MakingFails};
 ghost use Rattle.pc_log.specs.Opening.{OnDevice, OnMemory, IfMalformed, IsAreaOf, FindsAll, Finds, FindsFault, IfFound};
 ghost use Rattle.pc_log.specs.Untouched.{Untouched};
@@ -74,9 +74,12 @@ impl Log {
         ensures ahead { D.tells_due → SameDue (D.moment disk.new) (D.due disk.old) (D.due disk.new) }
 
         ensures well_formed { IfMalformed result (λ place. ⊥) }
-        ensures memory { OnMemory result (Untouched D.tells D.tells_due D.seen D.may_leave D.left_since D.moment D.due D.faults D.spare_calls D.spare_bytes disk.old disk.new) }
+        ensures memory { OnMemory result (Untouched D.Disk.own disk.old disk.new) }
         ensures faults { D.faults disk.old ≤ D.faults disk.new }
         ensures cause { OnDevice result (Rose (D.faults disk.old) (D.faults disk.new)) }
+
+        // It reads a byte.
+        ensures taken { D.taken disk.new ≤ D.taken disk.old + 1 }
     {
         let bytes = spell(alloc, kind, generation, first, base)?;
         disk.reserve(area, bytes.len() as u64)?;
@@ -106,11 +109,13 @@ impl Log {
         // A fault is the first.
         ensures fault { D.tells → IfMalformed result (FindsFault kind (area_of area (D.seen disk.old))) }
 
-        ensures untouched { Untouched D.tells D.tells_due D.seen D.may_leave D.left_since D.moment D.due D.faults D.spare_calls D.spare_bytes disk.old disk.new }
+        ensures untouched { Untouched D.Disk.own disk.old disk.new }
         ensures cause { OnDevice result (Rose (D.faults disk.old) (D.faults disk.new)) }
 
-        // It reads little more than the area up to its closed gate.
+        // It reads little more than the area up to its closed gate; and where it is refused no more than
+        // the longest area has.
         ensures taken { IfFound result (λ log. D.taken disk.new ≤ D.taken disk.old + log.gate + 5) }
+        ensures most_taken { D.taken disk.new ≤ D.taken disk.old + 2 ^ 31 }
     {
         Log::read_log(alloc, disk, area, kind)
     }
@@ -119,7 +124,8 @@ impl Log {
     pub fn prepare<D: Disk>(&self, disk: &mut D, length: u32) -> Result<(), Memory>
         ensures stands { D.tells → (head : Head) (entries : List (List ℕ)) → Stands self.now head entries (D.seen disk.old) (D.may_leave disk.old) → Stands self.now head entries (D.seen disk.new) (D.may_leave disk.new) }
         ensures prepared { OnOk result (IsPrepared self.now length (D.spare_calls disk.new) (D.spare_bytes disk.new)) }
-        ensures untouched { Untouched D.tells D.tells_due D.seen D.may_leave D.left_since D.moment D.due D.faults D.spare_calls D.spare_bytes disk.old disk.new }
+        ensures untouched { Untouched D.Disk.own disk.old disk.new }
+        ensures taken { D.taken disk.new ≡ D.taken disk.old }
     {
         let Some(upto) = self.gate.checked_add(u64::from(length) + 6) else {
             return Err(Memory);
@@ -140,9 +146,9 @@ impl Log {
         ensures other_area { D.tells → OnOk result (other_of self.old.area (D.seen disk.new) ≡ other_of self.old.area (D.seen disk.old)) }
 
         // A crash at any moment leaves the entries before it, with the new one as a whole or without it; and
-        // without it where the first or the second device call failed.
+        // without it up to the second device call.
         ensures any_moment { D.tells → (head : Head) (entries : List (List ℕ)) → Stands self.old head entries (D.seen disk.old) (D.may_leave disk.old) → LeavesOnly D.moment D.left_since disk.old disk.new (LeadsOn (InArea self.old.area (WithOrWithout head entries bytes.now)) (D.may_leave disk.old)) }
-        ensures early { D.tells → IsEarly result → (head : Head) (entries : List (List ℕ)) → Stands self.old head entries (D.seen disk.old) (D.may_leave disk.old) → LeavesOnly D.moment D.left_since disk.old disk.new (LeadsOn (InArea self.old.area (Without head entries)) (D.may_leave disk.old)) }
+        ensures first_two { D.tells → (head : Head) (entries : List (List ℕ)) → Stands self.old head entries (D.seen disk.old) (D.may_leave disk.old) → LeavesFirst D.moment D.left_since 2 disk.old disk.new (LeadsOn (InArea self.old.area (Without head entries)) (D.may_leave disk.old)) (LeadsOn (InArea self.old.area (WithOrWithout head entries bytes.now)) (D.may_leave disk.old)) }
 
         // It makes four device calls, or those up to the one that failed.
         ensures call { IfErr result (λ fault. (1 ≤ fault.call) × (fault.call ≤ 4)) }
@@ -175,9 +181,10 @@ impl Log {
         requires { area < 2 }
         ensures found { D.tells → Finds result area kind (area_of area (D.seen disk.old)) }
         ensures fault { D.tells → IfMalformed result (FindsFault kind (area_of area (D.seen disk.old))) }
-        ensures untouched { Untouched D.tells D.tells_due D.seen D.may_leave D.left_since D.moment D.due D.faults D.spare_calls D.spare_bytes disk.old disk.new }
+        ensures untouched { Untouched D.Disk.own disk.old disk.new }
         ensures cause { OnDevice result (Rose (D.faults disk.old) (D.faults disk.new)) }
         ensures taken { IfFound result (λ log. D.taken disk.new ≤ D.taken disk.old + log.gate + 5) }
+        ensures most_taken { D.taken disk.new ≤ D.taken disk.old + 2 ^ 31 }
     {
         let start = Opening::start(alloc, disk, area, kind)?;
         let Start::Made {

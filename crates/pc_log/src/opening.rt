@@ -67,10 +67,11 @@ impl Opening {
         ensures base { IfMade result (λ opening generation first base. length base ≤ 1073741824) }
         ensures right { IfMade result (λ opening generation first base. IsHead (record { kind = kind; generation = generation; first = first; base = base })) }
         ensures found { D.tells → IfMade result (λ opening generation first base. BeginsWith (record { kind = kind; generation = generation; first = first; base = base }) (area_of area (D.seen disk.old))) }
-        ensures untouched { Untouched D.tells D.tells_due D.seen D.may_leave D.left_since D.moment D.due D.faults D.spare_calls D.spare_bytes disk.old disk.new }
+        ensures untouched { Untouched D.Disk.own disk.old disk.new }
         ensures cause { OnDevice result (Rose (D.faults disk.old) (D.faults disk.new)) }
         ensures due { D.tells_due → OnDevice result (D.due disk.old (D.moment disk.old) ⊎ (2 ^ 64 ≤ D.taken disk.old + 1073741854)) }
         ensures taken { IfMade result (λ opening generation first base. D.taken disk.new ≤ D.taken disk.old + 30 + length base) }
+        ensures most_taken { D.taken disk.new ≤ D.taken disk.old + 1073741854 }
     {
         let mut buffer = [0; HEAD_SIZE];
         let count = disk.read(area, 0, &mut buffer)?;
@@ -103,11 +104,12 @@ impl Opening {
         ensures exact { D.tells → Gives bytes_of_next result (next_of self.old.reached (area_of self.old.area (D.seen disk.old))) }
         ensures found { D.tells → IfEntry result (λ entry. drop self.old.reached.gate (area_of self.old.area (D.seen disk.old)) ≡ entry_bytes entry.bytes ++ drop self.new.reached.gate (area_of self.old.area (D.seen disk.old))) }
         ensures state { Passes self.old self.new result }
-        ensures untouched { Untouched D.tells D.tells_due D.seen D.may_leave D.left_since D.moment D.due D.faults D.spare_calls D.spare_bytes disk.old disk.new }
+        ensures untouched { Untouched D.Disk.own disk.old disk.new }
         ensures cause { OnDevice result (Rose (D.faults disk.old) (D.faults disk.new)) }
         ensures due { D.tells_due → OnDevice result (D.due disk.old (D.moment disk.old) ⊎ (2 ^ 64 ≤ D.taken disk.old + 8388613)) }
         ensures taken { IfEntry result (λ entry. D.taken disk.new + self.old.reached.gate ≤ D.taken disk.old + self.new.reached.gate) }
         ensures taken_at_last { OnOk result (D.taken disk.new + self.old.reached.gate ≤ D.taken disk.old + self.new.reached.gate + 5) }
+        ensures most_taken { D.taken disk.new ≤ D.taken disk.old + 8388613 }
     {
         let mut buffer = [0; ENTRY_HEAD];
         let count = disk.read(self.area, self.gate, &mut buffer)?;
@@ -132,9 +134,10 @@ impl Opening {
         ensures found { D.tells → IfOk result (λ entries. ReadsAll (area_of self.old.area (D.seen disk.old)) self.old.reached self.new.reached entries.items) }
         ensures fault { D.tells → IfMalformed result (ReadsToFault (area_of self.old.area (D.seen disk.old)) self.old.reached) }
         ensures area { self.new.area ≡ self.old.area }
-        ensures untouched { Untouched D.tells D.tells_due D.seen D.may_leave D.left_since D.moment D.due D.faults D.spare_calls D.spare_bytes disk.old disk.new }
+        ensures untouched { Untouched D.Disk.own disk.old disk.new }
         ensures cause { OnDevice result (Rose (D.faults disk.old) (D.faults disk.new)) }
         ensures taken { OnOk result (D.taken disk.new + self.old.reached.gate ≤ D.taken disk.old + self.new.reached.gate + 5) }
+        ensures most_taken { D.taken disk.new ≤ D.taken disk.old + 33554432 }
     {
         let mut entries = Vec::new(alloc);
         while let Some(entry) = self.next(alloc, disk)? {
@@ -208,7 +211,7 @@ fn read_bytes<D: Disk>(
     ensures bytes { D.tells → Gives (λ bytes. bytes) result (bytes_at at size (area_of area (D.seen disk.old))) }
     ensures size { IfOk result (λ bytes. length bytes ≡ size) }
     ensures place { IfMalformed result (λ place. place ≡ at) }
-    ensures untouched { Untouched D.tells D.tells_due D.seen D.may_leave D.left_since D.moment D.due D.faults D.spare_calls D.spare_bytes disk.old disk.new }
+    ensures untouched { Untouched D.Disk.own disk.old disk.new }
     ensures cause { OnDevice result (Rose (D.faults disk.old) (D.faults disk.new)) }
     ensures due { D.tells_due → OnDevice result (D.due disk.old (D.moment disk.old) ⊎ (2 ^ 64 ≤ D.taken disk.old + size)) }
     ensures taken { D.taken disk.new ≤ D.taken disk.old + size }

@@ -6,9 +6,9 @@ use Rattle.std.specs.List.{list_all}
 use Rattle.std.specs.Cmp.{nat_eq_equiv}
 use Rattle.std.proofs.lemmas.List.{append-nil, take_more}
 use Rattle.std.proofs.lemmas.List.Folds.{list_all-append}
-use Rattle.pc_history.specs.declared.kept.Listed.{Listed}
-use Rattle.pc_history.specs.Table.{has_number}
-use Rattle.pc_history.specs.Step.{without, touched, stamped}
+use Rattle.pc_account_history.specs.declared.kept.Listed.{Listed}
+use Rattle.pc_tables.specs.Table.{has_number}
+use Rattle.pc_account_history.specs.Step.{without, touched, stamped}
 use Rattle.pc_mailbox.specs.UpdateList.{is_on, are_on, Grown, back_mapped, touched_entry}
 use Rattle.pc_mailbox.proofs.Touches.{filter-append, or-false, on-cons, on-append, and-first, and-second}
 

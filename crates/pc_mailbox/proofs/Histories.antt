@@ -6,19 +6,19 @@ use Rattle.pc_message.specs.declared.descriptor.Descriptor.{Descriptor}
 use Rattle.pc_message.specs.declared.descriptor.Change.{Change}
 use Rattle.pc_message.specs.declared.descriptor.Change.TheVariants.{Present}
 use Rattle.pc_message.specs.Descriptor.{descriptor_of}
-use Rattle.pc_history.specs.declared.kept.Kept.{Kept}
-use Rattle.pc_history.specs.declared.kept.Listed.{Listed}
-use Rattle.pc_history.specs.Record.{MailboxRecord, list_of, mailbox_of, kept_at, stamp_at}
-use Rattle.pc_history.specs.Known.{Known, said_by}
-use Rattle.pc_history.specs.History.{History, known, next}
-use Rattle.pc_history.specs.Step.{record_of}
-use Rattle.pc_history.specs.Allowed.{messages}
-use Rattle.pc_history.specs.Answers.{descriptor_at}
-use Rattle.pc_history.specs.Legal.{IsMailbox}
-use Rattle.pc_history.proofs.Histories.{Stands, Stands-legal}
-use Rattle.pc_history.proofs.Counts.{messages-said_by, keys-lists, lists-found}
-use Rattle.pc_history.proofs.Mailboxes.{IsMailbox-mailbox_of}
-use Rattle.pc_history.proofs.Uids.{Every-weaker, filter-agree}
+use Rattle.pc_account_history.specs.declared.kept.Kept.{Kept}
+use Rattle.pc_account_history.specs.declared.kept.Listed.{Listed}
+use Rattle.pc_account_history.specs.Record.{MailboxRecord, list_of, mailbox_of, kept_at, stamp_at}
+use Rattle.pc_account_history.specs.Known.{Known, said_by}
+use Rattle.pc_account_history.specs.History.{History, known, next}
+use Rattle.pc_account_history.specs.Step.{record_of}
+use Rattle.pc_account_history.specs.Allowed.{messages}
+use Rattle.pc_account_history.specs.Answers.{descriptor_at}
+use Rattle.pc_account_history.specs.Legal.{IsMailbox}
+use Rattle.pc_account_history.proofs.Histories.{Stands, Stands-legal}
+use Rattle.pc_account_history.proofs.Counts.{messages-said_by, keys-lists, lists-found}
+use Rattle.pc_account_history.proofs.Mailboxes.{IsMailbox-mailbox_of}
+use Rattle.pc_tables.proofs.Lists.{Every-weaker, filter-agree}
 use Rattle.pc_mailbox.specs.UpdateList.{is_on, takers_of}
 use Rattle.pc_mailbox.specs.Mailbox.{described, is_between, flags_at, message_at}
 use Rattle.pc_mailbox.specs.Histories.{StandsFor, descriptors_between, flags_in, message_in, takers_in}

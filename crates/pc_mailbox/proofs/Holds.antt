@@ -3,14 +3,15 @@ use Rattle.std.proofs.Common.{◌≡◌, ℕ, suc, ◌+◌, ◌*◌, ◌<◌, �
 use Rattle.std.proofs.lemmas.List.{length-take}
 use Rattle.std.proofs.Math.Seq.{take-append_seam}
 use Rattle.pc_message.specs.Message.{weight_of}
-use Rattle.pc_history.specs.declared.kept.Kept.{Kept}
-use Rattle.pc_history.specs.declared.limits.TheConstants.{MOST_UIDS, MOST_MESSAGES}
-use Rattle.pc_history.specs.Effect.{flagged}
-use Rattle.pc_history.specs.Legal.{AreMessages}
-use Rattle.pc_history.specs.Step.{uids_of}
-use Rattle.pc_history.proofs.Formed.{AreUids-messages, AreMessages-filter, AreMessages-flagged, Ordered-push}
-use Rattle.pc_history.proofs.Uids.{Every-weaker, Every-append}
-use Rattle.pc_history.proofs.Numbers.{length-filter-le, total-append}
+use Rattle.pc_account_history.specs.declared.kept.Kept.{Kept}
+use Rattle.pc_account_history.specs.declared.limits.TheConstants.{MOST_UIDS, MOST_MESSAGES}
+use Rattle.pc_account_history.specs.Effect.{flagged}
+use Rattle.pc_account_history.specs.Legal.{AreMessages}
+use Rattle.pc_account_history.specs.Step.{uids_of}
+use Rattle.pc_tables.proofs.Order.{Ordered-push}
+use Rattle.pc_account_history.proofs.Formed.{AreUids-messages, AreMessages-filter, AreMessages-flagged}
+use Rattle.pc_tables.proofs.Lists.{Every-weaker, Every-append, length-filter-le}
+use Rattle.pc_tables.proofs.Totals.{total-append}
 use Rattle.pc_mailbox.specs.UpdateList.{Rise}
 use Rattle.pc_mailbox.specs.Mailbox.{IsMailbox, weight_of_all, is_deleted, deleted, remaining, with_flag_at}
 

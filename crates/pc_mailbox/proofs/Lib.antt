@@ -1,9 +1,6 @@
 pub mod Search
 pub mod Stamps
 pub mod Touches
-pub mod Places
-pub mod Fronts
-pub mod Totals
 pub mod Holds
 pub mod Admitted
 pub mod Histories

@@ -4,56 +4,17 @@ use Rattle.std.proofs.Math.ListN.{set}
 use Rattle.std.proofs.Math.Seq.{take-length}
 use Rattle.std.proofs.lemmas.List.{length-drop}
 use Rattle.std.specs.List.{filter, AllByRecursion as Every}
-use Rattle.std.specs.List.Sorted.{IsNonDecreasingBy}
-use Rattle.std.proofs.lemmas.Bool.{cases_lt, lt-leb, ltb-true, ltb-false, not-true}
-use Rattle.pc_history.specs.declared.kept.Kept.{Kept}
-use Rattle.pc_history.specs.Record.{kept_at}
-use Rattle.pc_history.proofs.Uids.{Every-weaker, kept_at-below}
-use Rattle.pc_history.proofs.Formed.{Every-passes, Ordered-filter}
+use Rattle.std.proofs.lemmas.Bool.{cases_lt, lt-leb}
+use Rattle.pc_account_history.specs.declared.kept.Kept.{Kept}
+use Rattle.pc_account_history.specs.Record.{kept_at}
+use Rattle.pc_tables.proofs.Lists.{Every-weaker}
+use Rattle.pc_account_history.proofs.Uids.{kept_at-below}
+use Rattle.pc_tables.proofs.Order.{Ordered-filter}
 use Rattle.pc_mailbox.specs.Mailbox.{UidsRise, is_below, is_between, with_flag_at}
-
--- ---- where the messages part
-
-at-every : (P : Kept → Type 0) (messages : List Kept) (i : ℕ) (d : Kept) → Every P messages → i < length messages → P (get_or messages i d)
-at-every P [] i d h lt = absurd (omega (arith, lt))
-at-every P (kept ∷ messages) zero d h lt = h.0
-at-every P (kept ∷ messages) (suc i) d h lt = at-every P messages i d h.1 (omega (arith, lt))
-
-rise-at : (messages : List Kept) (i j : ℕ) (d : Kept) → UidsRise messages → i ≤ j → j < length messages → (get_or messages i d).uid ≤ (get_or messages j d).uid
-rise-at [] i j d h le lt = absurd (omega (arith, lt))
-rise-at (kept ∷ messages) zero zero d h le lt = omega arith
-rise-at (kept ∷ messages) zero (suc j) d h le lt = let later = at-every (λ (later : Kept). kept.uid < later.uid) messages j d h.0 (omega (arith, lt)) in omega (arith, later)
-rise-at (kept ∷ messages) (suc i) zero d h le lt = absurd (omega (arith, le))
-rise-at (kept ∷ messages) (suc i) (suc j) d h le lt = rise-at messages i j d h.1 (omega (arith, le)) (omega (arith, lt))
-
-pub uids-rise : (messages : List Kept) → UidsRise messages → IsNonDecreasingBy (λ (kept : Kept). kept.uid) messages
-uids-rise messages h i j d le lt = rise-at messages i j d h le lt
-
-module _ (p : Kept → Bool) where
-  none-pass : (messages : List Kept) → ((k : ℕ) (d : Kept) → k < length messages → p (get_or messages k d) ≡ false) → (filter p messages ≡ []) × (filter (λ (kept : Kept). not (p kept)) messages ≡ messages)
-  none-pass [] h = (refl, refl)
-  none-pass (kept ∷ messages) h =
-      let rest = none-pass messages (λ k d lt. h (suc k) d (omega (arith, lt))) in
-      let first : p kept ≡ false = h 0 kept (omega arith) in
-      (rw first rest.0, rw first (ap (λ (l : List Kept). kept ∷ l) rest.1))
-
-  -- those in front of the point pass the test, and those behind it don't
-  pub parted : (messages : List Kept) (i : ℕ) → i ≤ length messages → ((k : ℕ) (d : Kept) → k < i → p (get_or messages k d) ≡ true) → ((k : ℕ) (d : Kept) → i ≤ k → k < length messages → p (get_or messages k d) ≡ false) → (take i messages ≡ filter p messages) × (drop i messages ≡ filter (λ (kept : Kept). not (p kept)) messages)
-  parted messages zero le before behind = let none = none-pass messages (λ k d lt. behind k d (omega arith) lt) in (sym none.0, sym none.1)
-  parted [] (suc i) le before behind = absurd (omega (arith, le))
-  parted (kept ∷ messages) (suc i) le before behind =
-      let rest = parted messages i (omega (arith, le)) (λ k d lt. before (suc k) d (omega (arith, lt))) (λ k d l lt. behind (suc k) d (omega (arith, l)) (omega (arith, lt))) in
-      let first : p kept ≡ true = before 0 kept (omega arith) in
-      (rw first (ap (λ (l : List Kept). kept ∷ l) rest.0), rw first rest.1)
+use Rattle.pc_tables.proofs.Halves.{filter-below, filter-from}
 
 pub rise-filter : (p : Kept → Bool) (messages : List Kept) → UidsRise messages → UidsRise (filter p messages)
 rise-filter p messages h = Ordered-filter (λ (kept later : Kept). kept.uid < later.uid) p messages h
-
-before : (bound : ℕ) (messages : List Kept) → Every (λ (kept : Kept). kept.uid < bound) (filter (is_below bound) messages)
-before bound messages = Every-weaker (λ (kept : Kept). is_below bound kept ≡ true) (λ (kept : Kept). kept.uid < bound) (λ kept h. ltb-true kept.uid bound h) (filter (is_below bound) messages) (Every-passes (is_below bound) messages)
-
-behind : (bound : ℕ) (messages : List Kept) → Every (λ (kept : Kept). bound ≤ kept.uid) (filter (λ (kept : Kept). not (is_below bound kept)) messages)
-behind bound messages = Every-weaker (λ (kept : Kept). not (is_below bound kept) ≡ true) (λ (kept : Kept). bound ≤ kept.uid) (λ kept h. ltb-false kept.uid bound (not-true (is_below bound kept) h)) (filter (λ (kept : Kept). not (is_below bound kept)) messages) (Every-passes (λ (kept : Kept). not (is_below bound kept)) messages)
 
 -- ---- one message
 
@@ -76,7 +37,7 @@ first-or-none uid (kept ∷ messages) rise high =
 
 -- only the first message that isn't below the uid can have it
 pub found-first : (uid place : ℕ) (messages : List Kept) → UidsRise messages → drop place messages ≡ filter (λ (kept : Kept). not (is_below uid kept)) messages → kept_at uid messages ≡ of_uid uid (slice_get (drop place messages) 0)
-found-first uid place messages rise back = rw back (found-behind uid messages ∙ first-or-none uid (filter (λ (kept : Kept). not (is_below uid kept)) messages) (rise-filter (λ (kept : Kept). not (is_below uid kept)) messages rise) (behind uid messages))
+found-first uid place messages rise back = rw back (found-behind uid messages ∙ first-or-none uid (filter (λ (kept : Kept). not (is_below uid kept)) messages) (rise-filter (λ (kept : Kept). not (is_below uid kept)) messages rise) (filter-from (λ (kept : Kept). kept.uid) uid messages))
 
 -- a slice from a place on, as code takes it
 pub from-place : (place : ℕ) (messages : List Kept) → take (length messages - place) (drop place messages) ≡ drop place messages
@@ -142,7 +103,7 @@ module _ (uid flag : ℕ) (on : Bool) where
   module _ (messages : List Kept) (place : ℕ) (front : take place messages ≡ filter (is_below uid) messages) where
     -- the one message at the place is changed where it has the uid, and no other
     pub flag-set : (d : Kept) → UidsRise messages → drop place messages ≡ filter (λ (kept : Kept). not (is_below uid kept)) messages → place < length messages → set messages place (with_flag_at uid flag on (get_or messages place d)) ≡ map (with_flag_at uid flag on) messages
-    flag-set d rise back lt = set-by messages place d rise (rw front (before uid messages)) (rw back (behind uid messages)) lt
+    flag-set d rise back lt = set-by messages place d rise (rw front (filter-below (λ (kept : Kept). kept.uid) uid messages)) (rw back (filter-from (λ (kept : Kept). kept.uid) uid messages)) lt
 
     pub flag-none : length messages ≤ place → messages ≡ map (with_flag_at uid flag on) messages
-    flag-none le = none-by messages place (rw front (before uid messages)) le
+    flag-none le = none-by messages place (rw front (filter-below (λ (kept : Kept). kept.uid) uid messages)) le

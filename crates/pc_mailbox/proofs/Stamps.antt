@@ -10,9 +10,9 @@ use Rattle.std.proofs.lemmas.List.{map-append}
 use borrow.Author.Tests.{ltb-true}
 use Rattle.lru.specs.LruCache.{LruCache, put_entries, demoted}
 use Rattle.lru.proofs.CallerLemmas.{Contains-lookup_entry}
-use Rattle.pc_history.specs.declared.kept.Listed.{Listed}
-use Rattle.pc_history.specs.Record.{stamp_at}
-use Rattle.pc_history.specs.Step.{without, touched}
+use Rattle.pc_account_history.specs.declared.kept.Listed.{Listed}
+use Rattle.pc_account_history.specs.Record.{stamp_at}
+use Rattle.pc_account_history.specs.Step.{without, touched}
 use Rattle.pc_mailbox.specs.UpdateList.{changes_of, is_on, IsList}
 
 abbrev empty : List (ℕ × ℕ)

@@ -4,10 +4,10 @@ use Rattle.std.specs.List.{AllByRecursion, filter, list_all}
 use Rattle.std.specs.Cmp.{nat_eq_equiv}
 use Rattle.std.proofs.lemmas.Bool.{ne_eqb, eqb-true}
 use Rattle.std.proofs.lemmas.List.{map-append, take_more}
-use Rattle.pc_history.specs.declared.kept.Listed.{Listed}
-use Rattle.pc_history.specs.Table.{has_number}
-use Rattle.pc_history.specs.Step.{without, touched, stamped}
-use Rattle.pc_history.proofs.Uids.{has_number-append}
+use Rattle.pc_account_history.specs.declared.kept.Listed.{Listed}
+use Rattle.pc_tables.specs.Table.{has_number}
+use Rattle.pc_account_history.specs.Step.{without, touched, stamped}
+use Rattle.pc_tables.proofs.Numbers.{has_number-append}
 use Rattle.pc_mailbox.specs.UpdateList.{is_on, are_on, Rise}
 
 or-assoc : (a b c : Bool) → (a || (b || c)) ≡ ((a || b) || c)

@@ -3,10 +3,10 @@ use Rattle.std.specs.Prelude.{ℕ, Bool, false, not, ◌&&◌, ◌||◌, List, l
 use Rattle.std.specs.List.{filter}
 use Rattle.std.specs.Map.{lookup}
 use Rattle.std.specs.Option.{option_map_or}
-use Rattle.pc_history.specs.declared.kept.Kept.{Kept}
-use Rattle.pc_history.specs.declared.kept.Listed.{Listed}
-use Rattle.pc_history.specs.Table.{same, total}
-use Rattle.pc_history.specs.Record.{MailboxRecord}
+use Rattle.pc_account_history.specs.declared.kept.Kept.{Kept}
+use Rattle.pc_account_history.specs.declared.kept.Listed.{Listed}
+use Rattle.pc_tables.specs.Table.{same, total}
+use Rattle.pc_account_history.specs.Record.{MailboxRecord}
 use Rattle.pc_mailbox.specs.UpdateList.{is_on}
 use Rattle.pc_mailbox.specs.Mailbox.{is_deleted}
 

@@ -5,13 +5,13 @@ use Rattle.std.specs.List.{filter}
 use Rattle.pc_message.specs.declared.descriptor.Descriptor.{Descriptor}
 use Rattle.pc_message.specs.declared.descriptor.Change.{Change}
 use Rattle.pc_message.specs.declared.descriptor.Change.TheVariants.{Present}
-use Rattle.pc_history.specs.declared.kept.Kept.{Kept}
-use Rattle.pc_history.specs.Record.{MailboxRecord, mailbox_of}
-use Rattle.pc_history.specs.Known.{Known}
-use Rattle.pc_history.specs.History.{History, known}
-use Rattle.pc_history.specs.Step.{record_of}
-use Rattle.pc_history.specs.Legal.{IsLegal}
-use Rattle.pc_history.specs.Answers.{descriptors}
+use Rattle.pc_account_history.specs.declared.kept.Kept.{Kept}
+use Rattle.pc_account_history.specs.Record.{MailboxRecord, mailbox_of}
+use Rattle.pc_account_history.specs.Known.{Known}
+use Rattle.pc_account_history.specs.History.{History, known}
+use Rattle.pc_account_history.specs.Step.{record_of}
+use Rattle.pc_account_history.specs.Legal.{IsLegal}
+use Rattle.pc_account_history.specs.Answers.{descriptors}
 
 -- a legal history whose record has this mailbox under a name
 pub record StandsFor (h : History) (name : List ℕ) (box : MailboxRecord) : Type 0 where

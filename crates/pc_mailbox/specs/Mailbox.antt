@@ -5,14 +5,15 @@ use Rattle.std.specs.List.{filter}
 use Rattle.pc_message.specs.declared.descriptor.Change.{Change}
 use Rattle.pc_message.specs.declared.descriptor.Change.TheVariants.{Present}
 use Rattle.pc_message.specs.Message.{weight_of}
-use Rattle.pc_history.specs.declared.kept.Kept.{Kept}
-use Rattle.pc_history.specs.declared.limits.TheConstants.{MOST_UIDS, MOST_MESSAGES}
-use Rattle.pc_history.specs.Flags.{flag_of}
-use Rattle.pc_history.specs.Table.{total}
-use Rattle.pc_history.specs.Record.{MailboxRecord, kept_at}
-use Rattle.pc_history.specs.Effect.{flagged}
-use Rattle.pc_history.specs.Legal.{AreMessages, Ordered}
-use Rattle.pc_history.specs.Answers.{descriptor_at}
+use Rattle.pc_account_history.specs.declared.kept.Kept.{Kept}
+use Rattle.pc_account_history.specs.declared.limits.TheConstants.{MOST_UIDS, MOST_MESSAGES}
+use Rattle.pc_message.specs.Flags.{flag_of}
+use Rattle.pc_tables.specs.Table.{total}
+use Rattle.pc_account_history.specs.Record.{MailboxRecord, kept_at}
+use Rattle.pc_account_history.specs.Effect.{flagged}
+use Rattle.pc_tables.specs.Order.{Ordered}
+use Rattle.pc_account_history.specs.Legal.{AreMessages}
+use Rattle.pc_account_history.specs.Answers.{descriptor_at}
 
 -- a mailbox that was never made, without clients
 abbrev pub empty_mailbox : MailboxRecord

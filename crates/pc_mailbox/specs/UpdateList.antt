@@ -2,11 +2,11 @@
 use Rattle.std.specs.Prelude.{◌≡◌, ℕ, ◌^◌, ◌-◌, ◌<◌, Bool, List, map, length, is_some, zero, suc, [], ◌∷◌, ◌++◌}
 use Rattle.std.specs.List.{filter, list_all}
 use Rattle.lru.specs.LruCache.{LruCache}
-use Rattle.pc_history.specs.declared.kept.Listed.{Listed}
-use Rattle.pc_history.specs.Table.{total}
-use Rattle.pc_history.specs.Record.{stamp_at}
-use Rattle.pc_history.specs.Legal.{Ordered}
-use Rattle.pc_history.specs.Step.{without, touched}
+use Rattle.pc_account_history.specs.declared.kept.Listed.{Listed}
+use Rattle.pc_tables.specs.Table.{total}
+use Rattle.pc_account_history.specs.Record.{stamp_at}
+use Rattle.pc_tables.specs.Order.{Ordered}
+use Rattle.pc_account_history.specs.Step.{without, touched}
 
 -- uids with their stamps, as a list of changes
 abbrev pub changes_of : List (ℕ × ℕ) → List Listed

@@ -6,8 +6,9 @@ ghost use Rattle.pc_mailbox.specs.Growth.{is_touched, unlisted, unlisted_by_all}
 ghost use Rattle.pc_mailbox.specs.declared.mailbox.TheConstants.{MOST_LISTS};
 
 use crate::update_list::UpdateList;
+use pc_account_history::{Kept, MOST_MESSAGES};
 use pc_base::Name;
-use pc_history::{Kept, MOST_MESSAGES, is_on};
+use pc_message::is_on;
 
 /// How many of the messages, or of those whose flag 0 is on, aren't on the list.
 pub fn count_unlisted(list: &UpdateList, messages: &[Kept], deleted_only: bool) -> usize

@@ -2,22 +2,22 @@
 
 ghost use Rattle.std.specs.Prelude.{◌≡◌, ◌<◌, ◌≤◌, suc, true, false, [], ◌∷◌, map, length, take, unwrap_or, is_some, option_map, option_copied, OnOk, OnErr, IfOk, IsOk};
 ghost use Rattle.std.specs.List.{list_any};
-ghost use Rattle.pc_history.specs.Record.{kept_at, list_of, stamp_at};
-ghost use Rattle.pc_history.specs.Step.{with_message, with_flag_set, expunged, emptied, with_client, without_client, reset_for, taken_by};
+ghost use Rattle.pc_account_history.specs.Record.{kept_at, list_of, stamp_at};
+ghost use Rattle.pc_account_history.specs.Step.{with_message, with_flag_set, expunged, emptied, with_client, without_client, reset_for, taken_by};
 ghost use Rattle.pc_mailbox.specs.UpdateList.{takers_of, listed_in, all_list};
 ghost use Rattle.pc_mailbox.specs.Growth.{unlisted_by_all, unlisted_for};
-ghost use Rattle.pc_history.specs.Allowed.{messages};
-ghost use Rattle.pc_history.specs.Legal.{AreMessages};
-ghost use Rattle.pc_history.specs.Answers.{first_changes};
+ghost use Rattle.pc_account_history.specs.Allowed.{messages};
+ghost use Rattle.pc_account_history.specs.Legal.{AreMessages};
+ghost use Rattle.pc_account_history.specs.Answers.{first_changes};
 ghost use Rattle.pc_mailbox.specs.Mailbox.{empty_mailbox, kept_as, weight_of_all, is_deleted, deleted, described, flags_at, message_at};
 ghost use Rattle.pc_mailbox.specs.Histories.{InEachHistory, descriptors_between, message_in, flags_in, takers_in};
 
 use crate::shown::Shown;
 use crate::update_list::UpdateList;
 use crate::{growth, messages, update_lists};
+use pc_account_history::{Kept, MOST_MESSAGES, MOST_UIDS};
 use pc_base::{Memory, Name, Uids};
-use pc_history::{Kept, MOST_MESSAGES, MOST_UIDS, is_on, with_flag};
-use pc_message::{Changes, Message};
+use pc_message::{Changes, Message, is_on, with_flag};
 use std::alloc::Global;
 use std::marker::Model;
 
@@ -37,7 +37,7 @@ pub struct Mailbox {
 
 impl Model for Mailbox {
     ghost use Rattle.std.specs.Prelude.{◌≤◌, length};
-    ghost use Rattle.pc_history.specs.Record.{MailboxRecord};
+    ghost use Rattle.pc_account_history.specs.Record.{MailboxRecord};
 
     ghost Value = { MailboxRecord };
 
@@ -79,7 +79,7 @@ impl Mailbox {
         }
     }
 
-    /// Puts a message in under the next uid, which is answered.
+    /// Puts a copy of a message in under the next uid, which is answered.
     pub fn add(
         &mut self,
         alloc: Global,
@@ -94,16 +94,29 @@ impl Mailbox {
         ensures err { OnErr result (self.new ≡ self.old) }
         ensures uid { IfOk result (λ uid. uid ≡ suc self.old.highest) }
     {
+        let copy = message.copy(alloc)?;
+        self.put(at, copy, flags)
+    }
+
+    /// Puts a message in under the next uid, which is answered.
+    pub fn put(&mut self, at: u64, message: Message, flags: u16) -> Result<u32, Memory>
+        requires uids { self.old.highest < MOST_UIDS }
+        requires room { length self.old.messages < MOST_MESSAGES }
+        ensures mailbox { let kept = kept_as (suc self.old.highest) flags message in
+            OnOk result (self.new ≡ with_message at kept self.old) }
+        ensures err { OnErr result (self.new ≡ self.old) }
+        ensures uid { IfOk result (λ uid. uid ≡ suc self.old.highest) }
+    {
         let uid = self.highest + 1;
-        let kept = Kept {
-            uid,
-            flags,
-            message: message.copy(alloc)?,
-        };
+        let weight = message.weight();
         self.messages.reserve(1)?;
         update_lists::touch_for_all(&mut self.lists, at, &[uid])?;
-        self.weight += message.weight();
-        self.messages.push(kept)?;
+        self.weight += weight;
+        self.messages.push(Kept {
+            uid,
+            flags,
+            message,
+        })?;
         self.highest = uid;
         Ok(uid)
     }

@@ -2,14 +2,14 @@
 
 ghost use Rattle.std.specs.Prelude.{◌≡◌, ◌*◌, ◌≤◌, ◌<◌, not, map, length, take, drop, option_copied, [], ◌∷◌, ◌++◌, OnOk, IfOk};
 ghost use Rattle.std.specs.List.{list_any, filter};
-ghost use Rattle.pc_history.specs.declared.kept.Kept.{Kept};
-ghost use Rattle.pc_history.specs.Record.{kept_at};
-ghost use Rattle.pc_history.specs.Step.{uids_of};
+ghost use Rattle.pc_account_history.specs.declared.kept.Kept.{Kept};
+ghost use Rattle.pc_account_history.specs.Record.{kept_at};
+ghost use Rattle.pc_account_history.specs.Step.{uids_of};
 ghost use Rattle.pc_mailbox.specs.Mailbox.{weight_of_all, is_deleted, deleted, described, is_between, is_below, UidsRise, with_flag_at, remaining};
 
+use pc_account_history::{Kept, MOST_MESSAGES};
 use pc_base::Memory;
-use pc_history::{Kept, MOST_MESSAGES, is_on, with_flag};
-use pc_message::{Change, Changes, describe};
+use pc_message::{Change, Changes, describe, is_on, with_flag};
 use std::alloc::Global;
 
 /// How many messages have a uid below the bound. They stand in front, since uids rise.

@@ -2,8 +2,8 @@
 
 ghost use Rattle.std.specs.Prelude.{◌≡◌, [], ◌∷◌, ◌++◌, IfOk, OnOk, OnErr};
 
+use pc_account_history::Listed;
 use pc_base::Memory;
-use pc_history::Listed;
 use std::alloc::Global;
 use std::marker::Model;
 
@@ -15,7 +15,7 @@ pub struct Shown {
 
 impl Model for Shown {
     ghost use Rattle.std.specs.Prelude.{List};
-    ghost use Rattle.pc_history.specs.declared.kept.Listed.{Listed};
+    ghost use Rattle.pc_account_history.specs.declared.kept.Listed.{Listed};
 
     ghost Value = { List Listed };
 

@@ -2,14 +2,14 @@
 
 ghost use Rattle.std.specs.Prelude.{◌≡◌, ◌||◌, true, nat_eq, nat_lt, is_some, take, length, [], ◌∷◌, IfOk, OnOk, OnErr, IsOk};
 ghost use Rattle.std.specs.Map.{lookup};
-ghost use Rattle.pc_history.specs.Record.{stamp_at};
-ghost use Rattle.pc_history.specs.Step.{without, touched};
+ghost use Rattle.pc_account_history.specs.Record.{stamp_at};
+ghost use Rattle.pc_account_history.specs.Step.{without, touched};
 ghost use Rattle.pc_mailbox.specs.UpdateList.{is_on, changes_of};
 
 use crate::shown::Shown;
 use lru::{Iter, LruCache};
+use pc_account_history::Listed;
 use pc_base::Memory;
-use pc_history::Listed;
 use std::alloc::Global;
 use std::marker::Model;
 
@@ -24,7 +24,7 @@ pub struct UpdateList {
 
 impl Model for UpdateList {
     ghost use Rattle.std.specs.Prelude.{List};
-    ghost use Rattle.pc_history.specs.declared.kept.Listed.{Listed};
+    ghost use Rattle.pc_account_history.specs.declared.kept.Listed.{Listed};
 
     ghost Value = { List Listed };
 

@@ -3,8 +3,8 @@
 ghost use Rattle.std.specs.Prelude.{◌≡◌, ◌≤◌, true, [], length, unwrap_or, option_map, option_copied, position, OnOk, OnErr, IfOk, IsOk};
 ghost use Rattle.std.specs.Vec.{vec_len, vec_capacity};
 ghost use Rattle.std.specs.Map.{lookup, set_value};
-ghost use Rattle.pc_history.specs.Table.{same, map_values, others};
-ghost use Rattle.pc_history.specs.Step.{without, touched, stamped};
+ghost use Rattle.pc_tables.specs.Table.{same, map_values, others};
+ghost use Rattle.pc_account_history.specs.Step.{without, touched, stamped};
 ghost use Rattle.pc_mailbox.specs.UpdateList.{is_on, are_on, all_list, takers_of, listed_in, Rise, Grown, back_mapped, touched_entry};
 
 use crate::update_list::UpdateList;

@@ -1,8 +1,10 @@
 //! A message: a list of lines of bounded size.
 
-ghost use Rattle.std.specs.Prelude.{◌≡◌, ℕ, ◌+◌, ◌≤◌, IfOk, IfErr};
+ghost use Rattle.std.specs.Prelude.{◌≡◌, ℕ, ◌+◌, ◌≤◌, IsTrue, IfOk, IfErr, IfSome};
 ghost use Rattle.std.specs.Option.{SomeIff};
 ghost use Rattle.std.specs.Result.{OkIff};
+ghost use Rattle.std.specs.List.{list_all};
+ghost use Rattle.pc_base.specs.Line.{is_line};
 ghost use Rattle.pc_message.specs.Header.{header_of};
 ghost use Rattle.pc_message.specs.Message.{size_of, weight_of};
 
@@ -19,14 +21,14 @@ pub struct Message {
 }
 
 impl Model for Message {
-    ghost use Rattle.std.specs.Prelude.{◌≡◌, ℕ, List, ◌≤◌};
-    ghost use Rattle.pc_message.specs.Message.{size_of};
+    ghost use Rattle.std.specs.Prelude.{ℕ, List};
+    ghost use Rattle.pc_message.specs.Message.{IsSized};
 
     ghost Value = { List (List ℕ) };
 
     ghost view = { λ message. message.lines };
 
-    ghost invariant = { λ message. (message.bytes ≡ size_of message.lines) × (message.bytes ≤ 65536) };
+    ghost invariant = { λ message. IsSized message.lines message.bytes };
 }
 
 impl Message {
@@ -45,6 +47,7 @@ impl Message {
     pub fn size(&self) -> u32
         ensures size { result ≡ size_of self.now }
         ensures bound { result ≤ 65536 }
+        ensures lines { IsTrue (list_all is_line self.now) }
     {
         self.bytes
     }
@@ -75,6 +78,7 @@ impl Message {
     pub fn weight(&self) -> u32
         ensures weight { result ≡ weight_of self.now }
         ensures bound { result ≤ 65792 }
+        ensures lines { IsTrue (list_all is_line self.now) }
     {
         self.size() + 256
     }
@@ -92,7 +96,8 @@ impl Message {
 
 /// The size of these lines, where it is at most 65,536 bytes.
 fn size_within(lines: &[Line]) -> Option<u32>
-    ensures { SomeIff result (size_of lines.now ≤ 65536) (size_of lines.now) }
+    ensures size { SomeIff result (size_of lines.now ≤ 65536) (size_of lines.now) }
+    ensures lines { IfSome result (λ _. IsTrue (list_all is_line lines.now)) }
 {
     let mut size: u32 = 0;
     for line in lines {

@@ -188,7 +188,7 @@ fn recipients_are_limited(rt: HostRuntime) -> Result<(), Fail> {
 fn lists_keep_their_items(rt: HostRuntime) -> Result<(), Fail> {
     let name = Name::read(b"inbox").ok_or("a name")?;
     let mut letters = Letters::new(rt.alloc());
-    letters.push(name, message_of(rt.alloc(), &["To: ann"])?)?;
+    letters.push((name, message_of(rt.alloc(), &["To: ann"])?))?;
     assert_eq!(rt; letters.as_slice().len(), 1);
     let mut mails = Mails::new(rt.alloc());
     mails.push(Mail {

@@ -1,7 +1,7 @@
 -- What is asked of names, read off what is held.
 use Rattle.std.proofs.Common.{◌≡◌, ℕ, Bool, true, false, ◌&&◌, nat_lt, nat_le, List, map, None, Some, option_map, is_some, unwrap_or, ◌∙◌, ap}
 use Rattle.std.specs.Map.{lookup, keys_of}
-use Rattle.pc_history.specs.Table.{same, is_among}
+use Rattle.pc_tables.specs.Table.{same, is_among}
 use Rattle.pc_office_holdings.specs.declared.users.Standing.{Standing}
 use Rattle.pc_office_holdings.specs.Held.{noted_of}
 use Rattle.pc_office_holdings.proofs.Noted.{is_among-noted, lookup-noted}

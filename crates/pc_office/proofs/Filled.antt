@@ -8,7 +8,7 @@ use Rattle.std.proofs.Math.Numerals.{add-one}
 use Rattle.std.proofs.Math.Seq.{drop-cons}
 use Rattle.std.proofs.lemmas.Bool.{lt-leb, or_parts, cases_lt}
 use Rattle.std.proofs.lemmas.List.{drop_all}
-use Rattle.pc_history.specs.Table.{same}
+use Rattle.pc_tables.specs.Table.{same}
 use Rattle.pc_office_history.specs.declared.limits.TheConstants.{MOST_BOARD_MESSAGES, MOST_BOARD_WEIGHT}
 use Rattle.pc_office_history.specs.Known.{said_by}
 use Rattle.pc_office_history.specs.Limits.{board_weight}

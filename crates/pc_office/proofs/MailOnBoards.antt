@@ -6,9 +6,9 @@ use Rattle.std.specs.Option.{option_map_or}
 use Rattle.std.proofs.lemmas.Bool.{or_parts, ltb-true, leb-true}
 use Rattle.pc_base.specs.declared.refusal.LimitWord.TheVariants as limit
 use Rattle.pc_message.specs.Message.{weight_of}
-use Rattle.pc_history.specs.Table.{same, is_among}
-use Rattle.pc_history.proofs.Tables.{same-refl, same-true, is_among-keys}
-use Rattle.pc_account.proofs.Passed.{distinct-back}
+use Rattle.pc_tables.specs.Table.{same, is_among}
+use Rattle.pc_tables.proofs.Table.{same-refl, same-true, is_among-keys}
+use Rattle.pc_tables.proofs.Order.{Ordered-back}
 use Rattle.pc_office_history.specs.declared.limits.TheConstants.{MOST_BOARD_MESSAGES, MOST_BOARD_WEIGHT}
 use Rattle.pc_office_history.specs.declared.entry.OfficeEntry.TheVariants.{Accept}
 use Rattle.pc_office_history.specs.Known.{Known, said_by, after_entry}
@@ -18,7 +18,8 @@ use Rattle.pc_office_history.proofs.Names.{read-off, weight-added}
 use Rattle.pc_office_holdings.specs.Held.{Held, record_in, weight_on_all}
 use Rattle.pc_office.specs.Limits.{is_filled, board_count, are_full}
 use Rattle.pc_office_holdings.specs.State.{IsSound}
-use Rattle.pc_office.proofs.NamesCounted.{shared, total-alike}
+use Rattle.pc_tables.proofs.Totals.{total-alike}
+use Rattle.pc_office.proofs.NamesCounted.{shared}
 use Rattle.pc_office.proofs.MailWaits.{none-among}
 
 -- ---- a test over two lists of names
@@ -96,7 +97,7 @@ module _ (held : Held) (sound : IsSound held) (names message : List (List ℕ)) 
   weights : are_apart names ≡ true → board_weight (after_entry k (Accept names message)) ≡ weight_on_all held.boards + board_count held names * weight_of message
   weights apart =
       let formed = sound.canonical.well_formed in
-      let distinct = distinct-back (keys_of (record_in held).users) k.boards formed.user_names in
+      let distinct = Ordered-back (λ (a b : List ℕ). same a b ≡ false) (keys_of (record_in held).users) k.boards formed.user_names in
       let count : length (filter (λ board. is_among board names) k.boards) ≡ board_count held names = shared k.boards names distinct apart ∙ (λ i. length (filter (λ name. is_among-keys name held.boards i) names)) in
       weight-added k names message
       ∙ (λ i. (read-off (record_in held) formed).weight i + total-alike (weight_of message) (filter (λ board. is_among board names) k.boards) i)

@@ -8,11 +8,12 @@ use Rattle.std.proofs.lemmas.Bool.{or_parts, cases_lt, lt-leb}
 use Rattle.pc_base.specs.declared.refusal.LimitWord.TheVariants as limit
 use Rattle.pc_message.specs.declared.lists.Mail.{Mail}
 use Rattle.pc_message.specs.Message.{weight_of}
-use Rattle.pc_history.specs.declared.limits.TheConstants.{LAST_MAIL}
-use Rattle.pc_history.specs.Table.{same, is_among}
-use Rattle.pc_history.proofs.Tables.{same-refl, same-true, some-same, some-none}
-use Rattle.pc_history.proofs.Numbers.{total-append}
-use Rattle.pc_history.proofs.Uids.{Every-zip}
+use Rattle.pc_message.specs.declared.limits.TheConstants.{LAST_MAIL}
+use Rattle.pc_tables.specs.Table.{same, is_among}
+use Rattle.pc_tables.proofs.Table.{same-refl, same-true}
+use Rattle.pc_tables.proofs.Options.{some-same, some-none}
+use Rattle.pc_tables.proofs.Totals.{total-append}
+use Rattle.pc_tables.proofs.Lists.{Every-zip}
 use Rattle.pc_office_history.specs.declared.limits.TheConstants.{MOST_WAITING, MOST_WAITING_WEIGHT}
 use Rattle.pc_office_history.specs.declared.kept.Target.{Target}
 use Rattle.pc_office_history.specs.declared.kept.KeptMail.{KeptMail}
@@ -83,7 +84,7 @@ found-each (t ∷ ts) p f = (
 
 -- ---- what is counted of a user
 
-counted-of : (kept : List KeptMail) (user : List ℕ) (users : List (List ℕ × Standing)) (standing : Standing) → Every (IsCounted kept) users → lookup (same user) users ≡ Some standing → AreCounted standing (mails_for user kept)
+pub counted-of : (kept : List KeptMail) (user : List ℕ) (users : List (List ℕ × Standing)) (standing : Standing) → Every (IsCounted kept) users → lookup (same user) users ≡ Some standing → AreCounted standing (mails_for user kept)
 counted-of kept user [] standing h found = absurd (some-none standing (sym found))
 counted-of kept user (one ∷ users) standing h found = elim (same user one.0) as (λ b. same user one.0 ≡ b → cond b (Some one.1) (lookup (same user) users) ≡ Some standing → AreCounted standing (mails_for user kept)) [
   | true ↦ λ e g. subst (λ (s : Standing). AreCounted s (mails_for user kept)) (some-same one.1 standing g) (subst (λ (name : List ℕ). AreCounted one.1 (mails_for name kept)) (sym (same-true user one.0 e)) h.0)

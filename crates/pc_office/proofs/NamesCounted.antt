@@ -1,17 +1,12 @@
 -- How many names two lists share.
-use Rattle.std.proofs.Common.{◌≡◌, ℕ, ◌+◌, ◌*◌, Bool, true, false, cond, ◌||◌, not, List, [], ◌∷◌, length, filter, refl, sym, ◌∙◌, ap, arith, true≢false}
-use Rattle.std.specs.List.{AllByRecursion as Every}
+use Rattle.std.proofs.Common.{◌≡◌, ℕ, ◌+◌, Bool, true, false, cond, ◌||◌, not, List, [], ◌∷◌, length, filter, refl, sym, ◌∙◌, ap, arith, true≢false}
 use Rattle.std.proofs.lemmas.Bool.{and_parts, not-true}
-use Rattle.std.proofs.Math.Nat.{suc-mul}
-use Rattle.pc_history.specs.Table.{same, is_among, total}
-use Rattle.pc_history.specs.Legal.{AreDistinct}
-use Rattle.pc_history.proofs.Tables.{same-true, same-sym}
-use Rattle.pc_history.proofs.Uids.{filter-false}
+use Rattle.pc_tables.specs.Table.{same, is_among}
+use Rattle.pc_tables.specs.Order.{AreDistinct}
+use Rattle.pc_tables.proofs.Table.{same-true, same-sym}
+use Rattle.pc_tables.proofs.Lists.{filter-false}
 use Rattle.pc_office_history.specs.Allowed.{are_apart}
-
-not-among : (name : List ℕ) (names : List (List ℕ)) → Every (λ (other : List ℕ). same name other ≡ false) names → is_among name names ≡ false
-not-among name [] h = refl
-not-among name (other ∷ names) h = λ i. h.0 i || not-among name names h.1 i
+use Rattle.pc_tables.proofs.Distinct.{not-among}
 
 one-step : (name : List ℕ) (both others : List (List ℕ)) (here test later : Bool) → (here ≡ true → (test ≡ false) × (later ≡ false)) → length both ≡ cond later 1 0 + length others → length (cond (here || test) (name ∷ both) both) ≡ cond (here || later) 1 0 + length (cond test (name ∷ others) others)
 one-step name both others true true later f h = absurd (true≢false (f refl).0)
@@ -40,8 +35,3 @@ shared (name ∷ names) others distinct apart =
     step : (b : Bool) (rest : List (List ℕ)) (count : ℕ) → length rest ≡ count → length (cond b (name ∷ rest) rest) ≡ cond b 1 0 + count
     step true rest count h = omega (arith, h)
     step false rest count h = omega (arith, h)
-
--- a sum over names that count alike
-pub total-alike : {X : Type 0} (weight : ℕ) (xs : List X) → total (λ _. weight) xs ≡ length xs * weight
-total-alike weight [] = omega arith
-total-alike weight (x ∷ xs) = omega (arith, total-alike weight xs, suc-mul (length xs) weight)

@@ -8,11 +8,11 @@ use Rattle.pc_base.specs.declared.refusal.LimitWord.{LimitWord}
 use Rattle.pc_base.specs.declared.refusal.LimitWord.TheVariants as limit
 use Rattle.pc_base.specs.Recipient.{shown_of}
 use Rattle.pc_message.specs.Recipients.{addresses_of, distinct, unknown_of}
-use Rattle.pc_account.specs.declared.wish.AskFault.{AskFault}
-use Rattle.pc_account.specs.Answers.{Tells}
-use Rattle.pc_history.specs.Table.{same}
-use Rattle.pc_history.specs.declared.limits.TheConstants.{LAST_MAIL}
-use Rattle.pc_history.proofs.Tables.{some-none}
+use Rattle.pc_base.specs.declared.ask_fault.AskFault.{AskFault}
+use Rattle.pc_base.specs.AskFault.{Tells}
+use Rattle.pc_tables.specs.Table.{same}
+use Rattle.pc_message.specs.declared.limits.TheConstants.{LAST_MAIL}
+use Rattle.pc_tables.proofs.Options.{some-none}
 use Rattle.pc_office_history.specs.declared.kept.Target.{Target}
 use Rattle.pc_office_history.specs.declared.limits.TheConstants.{MOST_RECIPIENTS}
 use Rattle.pc_office_history.specs.declared.entry.OfficeEntry.{OfficeEntry}
@@ -20,7 +20,6 @@ use Rattle.pc_office_history.specs.declared.entry.OfficeEntry.TheVariants as ent
 use Rattle.pc_office_history.specs.Known.{Known, said_by}
 use Rattle.pc_office_history.specs.Record.{OfficeRecord}
 use Rattle.pc_office_spelling.specs.EntryForm.{entry_fits}
-use Rattle.pc_office_holdings.proofs.Entered.{may-parts}
 use Rattle.pc_office.specs.Machine.{accepts}
 use Rattle.pc_office_history.specs.Allowed.{is_allowed, is_user, is_free, is_recipient, are_apart}
 use Rattle.pc_office_history.specs.Limits.{limit_passed, would_pass}
@@ -128,13 +127,7 @@ pub told-follows : (k : Known) (w : OfficeWish) (told : Result OfficeEntry AskFa
 told-follows k w (Ok e) h = planned-follows k w e h
 told-follows k w (Err fault) h = tt
 
--- the entry of a plan fits its fields where it passes no limit
-abbrev pub PlanFits : Result OfficeEntry AskFault → Type 0
-PlanFits told = IfOk told (λ e. (k : Known) → limit_passed k e ≡ None → IsTrue (entry_fits e))
-
--- a store may commit what is told
-pub told-accepted : (r : OfficeRecord) (w : OfficeWish) (told : Result OfficeEntry AskFault) → Tells (planned (said_by r) w) told → PlanFits told → IfOk told (λ e. IsTrue (accepts r e))
-told-accepted r w (Ok e) h fits =
-    let may = planned-follows (said_by r) w e h in
-    and_from (may_follow (said_by r) e) (entry_fits e) may (fits (said_by r) (may-parts (said_by r) e may).1)
+-- a store may commit what is told, where it fits its fields
+pub told-accepted : (r : OfficeRecord) (w : OfficeWish) (told : Result OfficeEntry AskFault) → Tells (planned (said_by r) w) told → IfOk told (λ e. IsTrue (entry_fits e)) → IfOk told (λ e. IsTrue (accepts r e))
+told-accepted r w (Ok e) h fits = and_from (may_follow (said_by r) e) (entry_fits e) (planned-follows (said_by r) w e h) fits
 told-accepted r w (Err fault) h fits = tt

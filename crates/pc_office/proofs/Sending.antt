@@ -1,12 +1,27 @@
 -- The names to which a message is sent, and what a plan allows.
-use Rattle.std.proofs.Common.{◌≡◌, ℕ, ◌<◌, Bool, true, false, cond, not, ◌&&◌, ◌||◌, List, [], ◌∷◌, length, None, Some, refl, sym, ◌∙◌, arith, true≢false}
+use Rattle.std.proofs.Common.{◌≡◌, ℕ, ◌<◌, ◌≤◌, Bool, true, false, cond, not, ◌&&◌, ◌||◌, List, [], ◌∷◌, length, Option, None, Some, Ok, Err, refl, sym, ap, ◌∙◌, subst, arith, le-ltb, true≢false}
+use Rattle.std.specs.Option.{option_map_or}
 use Rattle.std.specs.List.{filter, find, list_all}
 use Rattle.std.specs.Str.{bytes_eq}
+use Rattle.std.proofs.lemmas.Bool.{and_parts}
 use Rattle.std.proofs.lemmas.Slice.Eq.{bytes_eq-Decides}
+use Rattle.pc_base.specs.Name.{is_name}
 use Rattle.pc_message.specs.Recipients.{distinct, unknown_of}
-use Rattle.pc_history.specs.Table.{same, is_among}
-use Rattle.pc_history.proofs.Tables.{same-true, some-none}
+use Rattle.pc_tables.specs.Table.{same, is_among}
+use Rattle.pc_tables.proofs.Table.{same-true}
+use Rattle.pc_tables.proofs.Lists.{list_all-filter}
+use Rattle.pc_tables.proofs.Options.{some-none}
+use Rattle.pc_base.specs.declared.refusal.LimitWord.{LimitWord}
+use Rattle.pc_base.specs.declared.refusal.Refusal.TheVariants.{LimitReached, UnknownRecipient}
+use Rattle.pc_base.specs.declared.refusal.LimitWord.TheVariants as limit
+use Rattle.pc_base.specs.Recipient.{shown_of}
+use Rattle.pc_base.specs.AskFault.{Tells}
+use Rattle.pc_office_history.specs.declared.entry.OfficeEntry.TheVariants.{Accept}
+use Rattle.pc_office_history.specs.declared.limits.TheConstants.{MOST_RECIPIENTS}
+use Rattle.pc_office_history.specs.Known.{Known}
+use Rattle.pc_office_history.specs.Limits.{limit_passed}
 use Rattle.pc_office_history.specs.Allowed.{are_apart}
+use Rattle.pc_office.specs.Plan.{within_limits, first_stranger, sent_to_names}
 
 -- names that are left of others don't hold one that is taken out
 taken-out : (text : List ℕ) (texts : List (List ℕ)) → is_among text (filter (λ other. not (bytes_eq other text)) texts) ≡ false
@@ -68,3 +83,23 @@ none-strange known (name ∷ names) h = elim (known name) as (λ b. cond (not b)
   | true ↦ λ rest. none-strange known names rest
   | false ↦ λ found. absurd (some-none name found)
 ] h
+
+all-distinct : (test : List ℕ → Bool) (texts : List (List ℕ)) → list_all test texts ≡ true → list_all test (distinct texts) ≡ true
+unfolding distinct
+all-distinct test [] h = refl
+all-distinct test (text ∷ texts) h =
+    let parts = and_parts (test text) (list_all test texts) h in
+    rw parts.0 (list_all-filter test (λ other. not (bytes_eq other text)) (distinct texts) (all-distinct test texts parts.1))
+
+-- where no address is told as unknown, all are names
+pub names-distinct : (texts : List (List ℕ)) → unknown_of texts ≡ None → list_all is_name (distinct texts) ≡ true
+names-distinct [] h = absurd (some-none [] h)
+names-distinct (text ∷ texts) h = all-distinct is_name (text ∷ texts) (none-strange is_name (text ∷ texts) h)
+
+-- what is sent to names that are few and known, where no limit is passed, is told
+pub tells-sent : (k : Known) (names message copy : List (List ℕ)) → length names ≤ MOST_RECIPIENTS → first_stranger k names ≡ None → limit_passed k (Accept names message) ≡ None → copy ≡ message → Tells (sent_to_names k message names) (Ok (Accept names copy))
+tells-sent k names message copy few none within same_text =
+    let entry = Ok (Accept names copy) in
+    let told = subst (λ (passed : Option LimitWord). Tells (option_map_or (λ limit. Err (LimitReached limit)) passed (Ok (Accept names message))) entry) (sym within) (ap (λ (text : List (List ℕ)). Accept names text) same_text) in
+    let known = subst (λ (found : Option (List ℕ)). Tells (option_map_or (λ name. Err (UnknownRecipient (shown_of name))) found (within_limits k (Accept names message))) entry) (sym none) told in
+    subst (λ many. Tells (cond many (Err (LimitReached limit.Recipients)) (option_map_or (λ name. Err (UnknownRecipient (shown_of name))) (first_stranger k names) (within_limits k (Accept names message)))) entry) (sym (le-ltb MOST_RECIPIENTS (length names) few)) known

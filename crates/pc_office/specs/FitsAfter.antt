@@ -4,11 +4,10 @@ use Rattle.std.specs.Prelude.{⊤}
 use Rattle.std.specs.List.{list_all, AllByRecursion as Every}
 use Rattle.std.specs.Map.{lookup, set_value}
 use Rattle.std.proofs.lemmas.Bool.{and_parts, and_from}
-use Rattle.pc_base.specs.Name.{is_name}
-use Rattle.pc_history.specs.Allowed.{inbox}
-use Rattle.pc_history.specs.Table.{same, is_among}
-use Rattle.pc_history.proofs.Numbers.{list_all-append, list_all-filter}
-use Rattle.pc_spelling.specs.EntryForm.{is_message}
+use Rattle.pc_base.specs.Name.{is_name, inbox}
+use Rattle.pc_tables.specs.Table.{same, is_among}
+use Rattle.pc_tables.proofs.Lists.{list_all-append, list_all-filter}
+use Rattle.pc_fields.specs.Fitting.{is_message}
 use Rattle.pc_office_history.specs.declared.kept.Target.{Target}
 use Rattle.pc_office_history.specs.declared.kept.KeptMail.{KeptMail}
 use Rattle.pc_office_history.specs.declared.entry.OfficeEntry.{OfficeEntry}

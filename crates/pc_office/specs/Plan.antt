@@ -9,9 +9,9 @@ use Rattle.pc_base.specs.Recipient.{shown_of}
 use Rattle.pc_message.specs.Recipients.{addresses_of, distinct, unknown_of}
 use Rattle.pc_message.specs.declared.addresses.RecipientFault.{RecipientFault}
 use Rattle.pc_message.specs.declared.addresses.RecipientFault.TheVariants as recipient
-use Rattle.pc_account.specs.declared.wish.AskFault.{AskFault}
-use Rattle.pc_account.specs.declared.wish.AskFault.TheVariants as ask
-use Rattle.pc_history.specs.Table.{same}
+use Rattle.pc_base.specs.declared.ask_fault.AskFault.{AskFault}
+use Rattle.pc_base.specs.declared.ask_fault.AskFault.TheVariants as ask
+use Rattle.pc_tables.specs.Table.{same}
 use Rattle.pc_office_history.specs.declared.entry.OfficeEntry.{OfficeEntry}
 use Rattle.pc_office_history.specs.declared.entry.OfficeEntry.TheVariants as entry
 use Rattle.pc_office_history.specs.declared.limits.TheConstants.{MOST_RECIPIENTS}

@@ -8,7 +8,7 @@ ghost use Rattle.pc_office_history.specs.Allowed.{is_user, is_board, is_address,
 ghost use Rattle.pc_office_holdings.specs.Held.{record_in};
 
 use pc_base::Name;
-use pc_history::LAST_MAIL;
+use pc_message::LAST_MAIL;
 use pc_office_history::OfficeEntry;
 use pc_office_holdings::Holdings;
 

@@ -1,7 +1,8 @@
 //! Which limit an entry would pass first, by what is counted.
 
-ghost use Rattle.std.specs.Prelude.{◌≡◌, ◌≤◌, length, IsTrue};
+ghost use Rattle.std.specs.Prelude.{◌≡◌, ◌≤◌, length, None, IsTrue};
 ghost use Rattle.std.specs.List.{list_any};
+ghost use Rattle.pc_fields.specs.Fitting.{is_message};
 ghost use Rattle.pc_office_history.specs.declared.entry.OfficeEntry.TheVariants as entry;
 ghost use Rattle.pc_office_history.specs.declared.limits.TheConstants.{MOST_RECIPIENTS};
 ghost use Rattle.pc_office_history.specs.Known.{said_by};
@@ -12,8 +13,7 @@ ghost use Rattle.pc_office.specs.Limits.{IsSendable, is_over as over, has_room a
 ghost use Rattle.pc_office_holdings.specs.State.{IsSound};
 
 use pc_base::{LimitWord, Name};
-use pc_history::LAST_MAIL;
-use pc_message::Message;
+use pc_message::{LAST_MAIL, Message};
 use pc_office_history::{
     MOST_ADDRESSES, MOST_BOARD_MESSAGES, MOST_BOARD_WEIGHT, MOST_BOARDS, MOST_RECIPIENTS,
     MOST_USERS, MOST_WAITING, MOST_WAITING_WEIGHT, OfficeEntry,
@@ -83,11 +83,13 @@ pub fn limit_of_address(
     None
 }
 
-/// The limit that a mail to these names would pass, each of which is there and comes once.
+/// The limit that a mail to these names would pass, each of which is there and comes once. A message
+/// that passes none fits its fields.
 pub fn limit_of_mail(holdings: &Holdings, names: &[Name], message: &Message) -> Option<LimitWord>
     requires sound { IsSound holdings.now }
     requires names { IsSendable (said_by (record_in holdings.now)) names.now }
-    ensures { result ≡ limit_passed (said_by (record_in holdings.now)) (entry.Accept names.now message.now) }
+    ensures limit { result ≡ limit_passed (said_by (record_in holdings.now)) (entry.Accept names.now message.now) }
+    ensures fits { result ≡ None → IsTrue (is_message message.now) }
 {
     if names.len() > MOST_RECIPIENTS {
         return Some(LimitWord::Recipients);

@@ -107,8 +107,8 @@ impl Machine for Office {
         Office::load(alloc, bytes)
     }
 
-    fn number_from(&mut self, _first: u64) -> bool {
-        true
+    fn number_from(&mut self, first: u64) -> bool {
+        Office::number_from(self, first)
     }
 
     fn write_entry(entry: &OfficeEntry, out: &mut Bytes) -> Result<(), Memory> {

@@ -1,12 +1,12 @@
 //! The post office.
 
-ghost use Rattle.std.specs.Prelude.{◌≡◌, ◌≤◌, ◌++◌, length, IsTrue, OnOk, OnErr, IfOk};
+ghost use Rattle.std.specs.Prelude.{◌≡◌, ℕ, ◌≤◌, ◌++◌, length, IsTrue, OnOk, OnErr, IfOk};
 ghost use Rattle.pc_base.specs.Machine.{FaultAt};
 ghost use Rattle.pc_office_spelling.specs.RecordForm.{CanBeSaved, IsRecordFault};
 ghost use Rattle.pc_office_spelling.specs.RecordSpelling.{spelled_record};
 ghost use Rattle.pc_office_history.specs.Record.{empty_record};
 ghost use Rattle.pc_office_history.specs.Known.{said_by};
-ghost use Rattle.pc_office_history.specs.History.{History, ◌▹◌, new_office};
+ghost use Rattle.pc_office_history.specs.History.{History, start, ◌▹◌, new_office};
 ghost use Rattle.pc_office_history.specs.Step.{after};
 ghost use Rattle.pc_office_holdings.specs.State.{StandsFor, may_follow};
 
@@ -71,6 +71,7 @@ impl Office {
     /// Reads the record of an office. `Malformed` names the first field at which no record goes on.
     pub fn load(alloc: Global, bytes: &[u8]) -> Result<Office, ReadFault>
         ensures found { IfOk result (λ office. CanBeSaved office × (spelled_record office ≡ bytes.now)) }
+        ensures history { (number : ℕ) → IfOk result (λ office. StandsFor office (start office number)) }
         ensures fault { FaultAt result (IsRecordFault bytes.now) }
         ensures within { FaultAt result (λ place. place ≤ length bytes.now) }
     {
@@ -78,5 +79,15 @@ impl Office {
             Ok(holdings) => Ok(Office { holdings }),
             Err(fault) => Err(fault),
         }
+    }
+
+    /// Gives an office that was just made or loaded the number of its next entry. Each suits: what
+    /// an office knows doesn't depend on it.
+    pub fn number_from(&mut self, first: u64) -> bool
+        ensures answer { IsTrue result }
+        ensures state { self.new ≡ self.old }
+        ensures history { (number : ℕ) → StandsFor self.old (start self.old number) → StandsFor self.new (start self.new first) }
+    {
+        true
     }
 }

@@ -1,14 +1,15 @@
 //! What the office allows, and what wishes come to.
 
-ghost use Rattle.std.specs.Prelude.{◌≡◌, ◌<◌, ◌≤◌, length, true, None, Ok, Err, IsTrue, IfOk, option_copied};
+ghost use Rattle.std.specs.Prelude.{◌≡◌, ◌<◌, ◌≤◌, length, true, Ok, Err, IsTrue, IfOk, option_copied};
 ghost use Rattle.std.specs.Option.{option_map_or};
+ghost use Rattle.std.specs.List.{list_all};
+ghost use Rattle.pc_base.specs.Name.{is_name};
 ghost use Rattle.pc_base.specs.declared.refusal.Refusal.TheVariants.{UnknownRecipient, LimitReached};
-ghost use Rattle.pc_account.specs.declared.wish.AskFault.TheVariants.{Refused};
-ghost use Rattle.pc_account.specs.Answers.{Tells, IsNoMemory};
+ghost use Rattle.pc_base.specs.declared.ask_fault.AskFault.TheVariants.{Refused};
+ghost use Rattle.pc_base.specs.AskFault.{Tells, IsNoMemory};
 ghost use Rattle.pc_office_history.specs.declared.limits.TheConstants.{MOST_RECIPIENTS};
 ghost use Rattle.pc_office_history.specs.Allowed.{are_apart};
-ghost use Rattle.pc_office_history.specs.Known.{Known, said_by};
-ghost use Rattle.pc_office_history.specs.Limits.{limit_passed};
+ghost use Rattle.pc_office_history.specs.Known.{said_by};
 ghost use Rattle.pc_office_spelling.specs.EntryForm.{entry_fits};
 ghost use Rattle.pc_office.specs.Machine.{accepts};
 ghost use Rattle.pc_office_history.specs.History.{History, known};
@@ -23,12 +24,10 @@ use crate::limits::{
 };
 use crate::office::Office;
 use crate::wish::OfficeWish;
-use pc_account::AskFault;
-use pc_base::{LimitWord, Name, Names, Recipient, Refusal};
+use pc_base::{AskFault, LimitWord, Name, Names, Recipient, Refusal};
 use pc_message::{Message, RecipientFault, recipients};
 use pc_office_history::{MOST_RECIPIENTS, OfficeEntry};
 use pc_office_holdings::Holdings;
-use pc_office_spelling::fits;
 use std::alloc::Global;
 
 impl Office {
@@ -49,26 +48,15 @@ impl Office {
         ensures accepted { IfOk result (λ entry. IsTrue (accepts self.now entry)) }
         ensures memory { IsAtOnce wish.now → IsNoMemory result }
     {
-        let planned = plan(alloc, &self.holdings, wish);
-        see_that_it_fits(&planned);
-        planned
+        plan(alloc, &self.holdings, wish)
     }
 }
 
-/// An entry that passes no limit fits its fields.
-fn see_that_it_fits(plan: &Result<OfficeEntry, AskFault>)
-    ensures { IfOk plan.now (λ entry. (k : Known) → limit_passed k entry ≡ None → IsTrue (entry_fits entry)) }
-{
-    let Ok(entry) = plan else {
-        return;
-    };
-    let _ = fits(entry);
-}
-
-/// What a wish comes to.
+/// What a wish comes to. The entry fits its fields.
 fn plan(alloc: Global, holdings: &Holdings, wish: &OfficeWish) -> Result<OfficeEntry, AskFault>
     requires { IsSound holdings.now }
     ensures tells { Tells (planned (said_by (record_in holdings.now)) wish.now) result }
+    ensures fits { IfOk result (λ entry. IsTrue (entry_fits entry)) }
     ensures memory { IsAtOnce wish.now → IsNoMemory result }
 {
     match wish {
@@ -103,7 +91,9 @@ fn may_follow(holdings: &Holdings, entry: &OfficeEntry) -> bool
 
 /// The entry, unless it passes a limit.
 fn within(limit: Option<LimitWord>, entry: OfficeEntry) -> Result<OfficeEntry, AskFault>
+    requires { IsTrue (entry_fits entry) }
     ensures tells { Tells (option_map_or (λ passed. Err (LimitReached passed)) limit (Ok entry)) result }
+    ensures fits { IfOk result (λ entry. IsTrue (entry_fits entry)) }
     ensures memory { IsNoMemory result }
 {
     match limit {
@@ -115,6 +105,7 @@ fn within(limit: Option<LimitWord>, entry: OfficeEntry) -> Result<OfficeEntry, A
 fn add_user(holdings: &Holdings, user: &Name) -> Result<OfficeEntry, AskFault>
     requires { IsSound holdings.now }
     ensures tells { Tells (planned (said_by (record_in holdings.now)) (wish.AddUser user.now)) result }
+    ensures fits { IfOk result (λ entry. IsTrue (entry_fits entry)) }
     ensures memory { IsNoMemory result }
 {
     if !is_free(holdings, user) {
@@ -122,13 +113,14 @@ fn add_user(holdings: &Holdings, user: &Name) -> Result<OfficeEntry, AskFault>
     }
     within(
         limit_of_user(holdings, user),
-        OfficeEntry::AddUser { user: *user },
+        OfficeEntry::AddUser { user: user.copy() },
     )
 }
 
 fn add_board(holdings: &Holdings, board: &Name) -> Result<OfficeEntry, AskFault>
     requires { IsSound holdings.now }
     ensures tells { Tells (planned (said_by (record_in holdings.now)) (wish.AddBoard board.now)) result }
+    ensures fits { IfOk result (λ entry. IsTrue (entry_fits entry)) }
     ensures memory { IsNoMemory result }
 {
     if !is_free(holdings, board) {
@@ -136,7 +128,9 @@ fn add_board(holdings: &Holdings, board: &Name) -> Result<OfficeEntry, AskFault>
     }
     within(
         limit_of_new_board(holdings, board),
-        OfficeEntry::AddBoard { board: *board },
+        OfficeEntry::AddBoard {
+            board: board.copy(),
+        },
     )
 }
 
@@ -148,6 +142,7 @@ fn take_address(
 ) -> Result<OfficeEntry, AskFault>
     requires { IsSound holdings.now }
     ensures tells { Tells (planned (said_by (record_in holdings.now)) (wish.TakeAddress address.now user.now mailbox.now)) result }
+    ensures fits { IfOk result (λ entry. IsTrue (entry_fits entry)) }
     ensures memory { IsNoMemory result }
 {
     if !is_user(holdings, user) {
@@ -159,21 +154,24 @@ fn take_address(
     within(
         limit_of_address(holdings, address, user, mailbox),
         OfficeEntry::TakeAddress {
-            address: *address,
-            user: *user,
-            mailbox: *mailbox,
+            address: address.copy(),
+            user: user.copy(),
+            mailbox: mailbox.copy(),
         },
     )
 }
 
 fn drop_address(holdings: &Holdings, address: &Name, user: &Name) -> Result<OfficeEntry, AskFault>
     ensures tells { Tells (planned (said_by (record_in holdings.now)) (wish.DropAddress address.now user.now)) result }
+    ensures fits { IfOk result (λ entry. IsTrue (entry_fits entry)) }
     ensures memory { IsNoMemory result }
 {
     if !may_give_up(holdings, user, address) {
         return Err(AskFault::Refused(Refusal::NoSuchAddress));
     }
-    Ok(OfficeEntry::DropAddress { address: *address })
+    Ok(OfficeEntry::DropAddress {
+        address: address.copy(),
+    })
 }
 
 /// Whether the address is this user's to give up: it is for the user, and no user's own name.
@@ -189,7 +187,8 @@ fn may_give_up(holdings: &Holdings, user: &Name, address: &Name) -> bool
 /// What sending a message to those whom it names comes to.
 fn send(alloc: Global, holdings: &Holdings, message: &Message) -> Result<OfficeEntry, AskFault>
     requires { IsSound holdings.now }
-    ensures { Tells (sent (said_by (record_in holdings.now)) message.now) result }
+    ensures tells { Tells (sent (said_by (record_in holdings.now)) message.now) result }
+    ensures fits { IfOk result (λ entry. IsTrue (entry_fits entry)) }
 {
     let names = match recipients(alloc, message) {
         Ok(names) => names,
@@ -209,7 +208,9 @@ fn send_to(
     requires some { 0 < length names }
     requires apart { are_apart names ≡ true }
     requires few { length names ≤ MOST_RECIPIENTS }
-    ensures { Tells (sent_to_names (said_by (record_in holdings.now)) message.now names) result }
+    requires names { IsTrue (list_all is_name names) }
+    ensures tells { Tells (sent_to_names (said_by (record_in holdings.now)) message.now names) result }
+    ensures fits { IfOk result (λ entry. IsTrue (entry_fits entry)) }
 {
     if let Some(name) = first_stranger(holdings, names.as_slice()) {
         return Err(unknown(&Recipient::shown(name.bytes())));

@@ -1,18 +1,20 @@
 //! What the office answers.
 
-ghost use Rattle.std.specs.Prelude.{◌≡◌, ◌++◌, [], ◌∷◌, IfOk, OnOk, option_copied};
+ghost use Rattle.std.specs.Prelude.{◌≡◌, ℕ, ◌<◌, ◌==◌, List, ◌++◌, [], ◌∷◌, length, take, IfOk, OnOk, option_copied};
 ghost use Rattle.std.specs.List.{filter};
 ghost use Rattle.pc_office_history.specs.Record.{mails_for};
 ghost use Rattle.pc_office_history.specs.Known.{said_by, is_past};
 ghost use Rattle.pc_office_history.specs.History.{History, known};
 ghost use Rattle.pc_office_history.specs.Answers.{addresses_of, waiting_past, board_of};
-ghost use Rattle.pc_office_holdings.specs.State.{StandsFor};
+ghost use Rattle.pc_tables.specs.Order.{Ordered};
+ghost use Rattle.pc_office_history.specs.declared.kept.KeptMail.{KeptMail as Kept};
+ghost use Rattle.pc_office_holdings.specs.State.{StandsFor, IsSound};
 
 use crate::office::Office;
 use pc_base::{Memory, Name, Names};
-use pc_history::MOST_LETTERS;
-use pc_message::{Mail, Mails, Message};
+use pc_message::{MOST_LETTERS, Mail, Mails, Message};
 use pc_office_history::KeptMail;
+use pc_office_holdings::Holdings;
 use std::alloc::Global;
 
 impl Office {
@@ -81,30 +83,52 @@ impl Office {
         ensures held { IfOk result (λ mails. mails ≡ waiting_past (said_by self.now) user.now after) }
         ensures history { (h : History) → StandsFor self.now h → IfOk result (λ mails. mails ≡ waiting_past (known h) user.now after) }
     {
-        let mut mails = Mails::new(alloc);
-        for kept in self.holdings.kept() {
-            if mails.as_slice().len() == MOST_LETTERS {
-                return Ok(mails);
-            }
-            tell(alloc, &mut mails, kept, user, after)?;
+        if nothing_waits(&self.holdings, user) {
+            return Ok(Mails::new(alloc));
         }
-        Ok(mails)
+        first_for(alloc, past(self.holdings.kept(), after), user)
     }
 }
 
-/// Adds a copy of the mail, where it waits for the user and its number is past this one.
-fn tell(
-    alloc: Global,
-    mails: &mut Mails,
-    kept: &KeptMail,
-    user: &Name,
-    after: u64,
-) -> Result<(), Memory>
-    ensures { OnOk result (mails.new ≡ mails.old ++ filter (is_past after) (mails_for user.now (kept.now ∷ []))) }
+/// Whether nothing waits for the user, by what is counted.
+fn nothing_waits(holdings: &Holdings, user: &Name) -> bool
+    requires { IsSound holdings.now }
+    ensures { result ≡ (length (mails_for user.now holdings.now.kept) == 0) }
 {
-    if kept.number <= after {
-        return Ok(());
+    match holdings.users().get(user) {
+        Some(standing) => standing.mails == 0,
+        None => true,
     }
+}
+
+/// Those of the mails that have numbers past this one. They stand behind the others, since numbers
+/// rise.
+fn past(kept: &[KeptMail], after: u64) -> &[KeptMail]
+    requires { Ordered (λ (mail later : Kept). mail.number < later.number) kept.now }
+    ensures { (user : List ℕ) → mails_for user result.now ≡ filter (is_past after) (mails_for user kept.now) }
+{
+    let count = kept.partition_point(|mail| mail.number <= after);
+    &kept[count..]
+}
+
+/// The first 64 of the mails that are for the user.
+fn first_for(alloc: Global, kept: &[KeptMail], user: &Name) -> Result<Mails, Memory>
+    ensures { IfOk result (λ mails. mails ≡ take MOST_LETTERS (mails_for user.now kept.now)) }
+{
+    let mut mails = Mails::new(alloc);
+    for mail in kept {
+        if mails.as_slice().len() == MOST_LETTERS {
+            return Ok(mails);
+        }
+        tell(alloc, &mut mails, mail, user)?;
+    }
+    Ok(mails)
+}
+
+/// Adds a copy of the mail, where it is for the user.
+fn tell(alloc: Global, mails: &mut Mails, kept: &KeptMail, user: &Name) -> Result<(), Memory>
+    ensures { OnOk result (mails.new ≡ mails.old ++ mails_for user.now (kept.now ∷ [])) }
+{
     let Some(target) = kept.targets.of(user) else {
         return Ok(());
     };

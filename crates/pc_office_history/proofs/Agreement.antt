@@ -6,11 +6,12 @@ use Rattle.std.specs.Map.{lookup, keys_of}
 use Rattle.std.specs.Option.{option_or}
 use Rattle.std.proofs.lemmas.Bool.{and_parts}
 use Rattle.pc_message.specs.declared.lists.Mail.{Mail}
-use Rattle.pc_history.specs.declared.limits.TheConstants.{LAST_MAIL}
-use Rattle.pc_history.specs.Table.{same, is_among}
-use Rattle.pc_history.proofs.Tables.{and3, same-true, same-sym, same-refl, lookup-append, lookup-others, lookup-set_value, keys-append, keys-others, keys-set_value, is_among-keys}
-use Rattle.pc_history.proofs.Uids.{Every-weaker, Every-append}
-use Rattle.pc_history.proofs.Boxes.{option_or-none}
+use Rattle.pc_message.specs.declared.limits.TheConstants.{LAST_MAIL}
+use Rattle.pc_tables.specs.Table.{same, is_among}
+use Rattle.pc_tables.proofs.Booleans.{and3}
+use Rattle.pc_tables.proofs.Table.{same-true, same-sym, same-refl, lookup-append, lookup-others, lookup-set_value, keys-append, keys-others, keys-set_value, is_among-keys}
+use Rattle.pc_tables.proofs.Lists.{Every-weaker, Every-append}
+use Rattle.pc_tables.proofs.Options.{option_or-none}
 use Rattle.pc_office_history.specs.declared.kept.Target.{Target}
 use Rattle.pc_office_history.specs.declared.kept.KeptMail.{KeptMail}
 use Rattle.pc_office_history.specs.declared.entry.OfficeEntry.{OfficeEntry}
@@ -91,12 +92,15 @@ module _ (r : OfficeRecord) (formed : IsWellFormed r) where
   abbrev noted_of : List ℕ → ℕ
   noted_of user = unwrap_or (lookup (same user) r.users) 0
 
+  -- what waits for a user is for a user, who isn't noted to have pulled it
+  pub waiting-unpulled : (user : List ℕ) → Every (λ (mail : Mail). MatchOption (lookup (same user) r.users) ⊥ (λ noted. noted < mail.number)) (mails_for user r.kept)
+  waiting-unpulled user =
+      Every-mails_for (λ (mail : Mail). MatchOption (lookup (same user) r.users) ⊥ (λ noted. noted < mail.number)) user r.kept
+      (Every-weaker (IsKept r.users r.accepted) (λ (mail : KeptMail). MatchOption (mail_for user mail) ⊤ (λ waits. MatchOption (lookup (same user) r.users) ⊥ (λ noted. noted < waits.number))) (λ mail h. mail-unpulled r.users user mail h.unpulled) r.kept formed.kept)
+
   -- what waits for a user is past what is noted of it
   pub waiting-past : (user : List ℕ) → Every (λ (mail : Mail). noted_of user < mail.number) (mails_for user r.kept)
-  waiting-past user =
-      Every-weaker (λ (mail : Mail). MatchOption (lookup (same user) r.users) ⊥ (λ noted. noted < mail.number)) (λ (mail : Mail). noted_of user < mail.number) (λ mail h. noted-below (lookup (same user) r.users) mail.number h) (mails_for user r.kept)
-      (Every-mails_for (λ (mail : Mail). MatchOption (lookup (same user) r.users) ⊥ (λ noted. noted < mail.number)) user r.kept
-      (Every-weaker (IsKept r.users r.accepted) (λ (mail : KeptMail). MatchOption (mail_for user mail) ⊤ (λ waits. MatchOption (lookup (same user) r.users) ⊥ (λ noted. noted < waits.number))) (λ mail h. mail-unpulled r.users user mail h.unpulled) r.kept formed.kept))
+  waiting-past user = Every-weaker (λ (mail : Mail). MatchOption (lookup (same user) r.users) ⊥ (λ noted. noted < mail.number)) (λ (mail : Mail). noted_of user < mail.number) (λ mail h. noted-below (lookup (same user) r.users) mail.number h) (mails_for user r.kept) (waiting-unpulled user)
 
   absent-address : (name : List ℕ) → is_free (said_by r) name ≡ true → lookup (same name) r.addresses ≡ None
   absent-address name h = absent (lookup (same name) r.addresses) (is_free-parts (said_by r) name h).2

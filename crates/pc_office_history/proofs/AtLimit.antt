@@ -1,9 +1,9 @@
 -- A record for one of whose users many mails wait.
 use Rattle.std.proofs.Common.{ℕ, zero, suc, ◌+◌, ◌<◌, ◌≤◌, true≢false, [], ◌∷◌, map, refl, arith}
 use Rattle.std.specs.List.{AllByRecursion as Every}
-use Rattle.pc_history.specs.declared.limits.TheConstants.{LAST_MAIL}
-use Rattle.pc_history.specs.Table.{numbers}
-use Rattle.pc_history.specs.Legal.{Ordered}
+use Rattle.pc_message.specs.declared.limits.TheConstants.{LAST_MAIL}
+use Rattle.pc_tables.specs.Table.{numbers}
+use Rattle.pc_tables.specs.Order.{Ordered}
 use Rattle.pc_office_history.specs.declared.kept.KeptMail.{KeptMail}
 use Rattle.pc_office_history.specs.Legal.{IsKept, IsWellFormed}
 use Rattle.pc_office_history.specs.Samples.{ann, box, target, kept_for, waiting_for_ann, WaitingAtLimit}

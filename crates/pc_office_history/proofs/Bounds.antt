@@ -6,10 +6,10 @@ use Rattle.std.proofs.lemmas.Bool.{or_parts}
 use Rattle.std.proofs.Math.Nat.{mul-le-mul_right}
 use Rattle.pc_message.specs.declared.lists.Mail.{Mail}
 use Rattle.pc_message.specs.Message.{weight_of}
-use Rattle.pc_history.specs.declared.limits.TheConstants.{LAST_MAIL}
-use Rattle.pc_history.specs.Table.{same, is_among, total}
-use Rattle.pc_history.specs.Legal.{Ordered}
-use Rattle.pc_history.proofs.Tables.{same-true, same-refl, is_among-keys}
+use Rattle.pc_message.specs.declared.limits.TheConstants.{LAST_MAIL}
+use Rattle.pc_tables.specs.Table.{same, is_among, total}
+use Rattle.pc_tables.specs.Order.{Ordered}
+use Rattle.pc_tables.proofs.Table.{same-true, same-refl, is_among-keys}
 use Rattle.pc_office_history.specs.declared.limits.TheConstants.{MOST_USERS, MOST_WAITING, MOST_WAITING_WEIGHT}
 use Rattle.pc_office_history.specs.declared.kept.Target.{Target}
 use Rattle.pc_office_history.specs.declared.kept.KeptMail.{KeptMail}

@@ -5,12 +5,12 @@ use Rattle.std.specs.List.{AllByRecursion as Every}
 use Rattle.std.specs.Map.{lookup, keys_of, set_value}
 use Rattle.std.specs.Option.{option_or}
 use Rattle.std.proofs.lemmas.Bool.{and_parts, or_parts, not-true, ltb-true, leb-true, leb-false}
-use Rattle.pc_history.specs.declared.limits.TheConstants.{LAST_MAIL}
-use Rattle.pc_history.specs.Table.{same, is_among}
-use Rattle.pc_history.specs.Legal.{Ordered, AreDistinct}
-use Rattle.pc_history.proofs.Tables.{same-true, same-sym, same-refl, lookup-append, lookup-set_value, keys-append, keys-others, keys-set_value, is_among-keys}
-use Rattle.pc_history.proofs.Uids.{Every-weaker, Every-append, Every-filter, Every-zip}
-use Rattle.pc_history.proofs.Formed.{Every-passes, Ordered-filter, Ordered-append, Ordered-push, Ordered-insert}
+use Rattle.pc_message.specs.declared.limits.TheConstants.{LAST_MAIL}
+use Rattle.pc_tables.specs.Table.{same, is_among}
+use Rattle.pc_tables.specs.Order.{Ordered, AreDistinct}
+use Rattle.pc_tables.proofs.Table.{same-true, same-sym, same-refl, lookup-append, lookup-set_value, keys-append, keys-others, keys-set_value, is_among-keys}
+use Rattle.pc_tables.proofs.Lists.{Every-weaker, Every-append, Every-filter, Every-zip, Every-passes}
+use Rattle.pc_tables.proofs.Order.{Ordered-filter, Ordered-append, Ordered-push, Ordered-insert}
 use Rattle.pc_office_history.specs.declared.kept.Target.{Target}
 use Rattle.pc_office_history.specs.declared.kept.KeptMail.{KeptMail}
 use Rattle.pc_office_history.specs.declared.entry.OfficeEntry.{OfficeEntry}

@@ -7,3 +7,4 @@ pub mod Waiting
 pub mod Names
 pub mod Bounds
 pub mod AtLimit
+pub mod LimitPassed

@@ -7,11 +7,12 @@ use Rattle.std.specs.Option.{option_map_or}
 use Rattle.std.proofs.lemmas.Bool.{cases_lt, lt-leb, not-true}
 use Rattle.std.proofs.lemmas.List.Elements.{filter_map-append}
 use Rattle.pc_message.specs.declared.lists.Mail.{Mail}
-use Rattle.pc_history.specs.Table.{same}
-use Rattle.pc_history.specs.Legal.{Ordered}
-use Rattle.pc_history.proofs.Tables.{same-true, same-sym, cond_same}
-use Rattle.pc_history.proofs.Uids.{Every-weaker, filter-agree, filter-true}
-use Rattle.pc_history.proofs.Formed.{Every-passes, Ordered-filter}
+use Rattle.pc_tables.specs.Table.{same}
+use Rattle.pc_tables.specs.Order.{Ordered}
+use Rattle.pc_tables.proofs.Table.{same-true, same-sym}
+use Rattle.pc_tables.proofs.Booleans.{cond_same}
+use Rattle.pc_tables.proofs.Lists.{Every-weaker, filter-agree, filter-true, Every-passes}
+use Rattle.pc_tables.proofs.Order.{Ordered-filter}
 use Rattle.pc_office_history.specs.declared.kept.Target.{Target}
 use Rattle.pc_office_history.specs.declared.kept.KeptMail.{KeptMail}
 use Rattle.pc_office_history.specs.Record.{target_of, mail_at, mail_for, mails_for}

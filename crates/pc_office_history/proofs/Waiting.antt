@@ -8,12 +8,13 @@ use Rattle.std.proofs.lemmas.List.Folds.{find-append}
 use Rattle.std.proofs.lemmas.Bool.{cases_lt, ltb-true}
 use Rattle.std.proofs.lemmas.List.Elements.{filter-append, Contains-append_left, Contains-append_right}
 use Rattle.pc_message.specs.declared.lists.Mail.{Mail}
-use Rattle.pc_history.specs.declared.limits.TheConstants.{MOST_LETTERS, LAST_MAIL}
-use Rattle.pc_history.specs.Table.{same, is_among, numbers}
-use Rattle.pc_history.specs.Legal.{Ordered}
-use Rattle.pc_history.proofs.Tables.{same-true, is_among-keys}
-use Rattle.pc_history.proofs.Uids.{Every-weaker, Every-append, Every-filter, Every-zip, numbers-append}
-use Rattle.pc_history.proofs.Formed.{Every-passes, Ordered-filter}
+use Rattle.pc_message.specs.declared.limits.TheConstants.{MOST_LETTERS, LAST_MAIL}
+use Rattle.pc_tables.specs.Table.{same, is_among, numbers}
+use Rattle.pc_tables.specs.Order.{Ordered}
+use Rattle.pc_tables.proofs.Table.{same-true, is_among-keys}
+use Rattle.pc_tables.proofs.Lists.{Every-weaker, Every-append, Every-filter, Every-zip, Every-passes}
+use Rattle.pc_tables.proofs.Numbers.{numbers-append}
+use Rattle.pc_tables.proofs.Order.{Ordered-filter}
 use Rattle.pc_office_history.specs.declared.kept.Target.{Target}
 use Rattle.pc_office_history.specs.declared.kept.KeptMail.{KeptMail}
 use Rattle.pc_office_history.specs.declared.entry.OfficeEntry.{OfficeEntry}

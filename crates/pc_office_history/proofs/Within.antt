@@ -1,16 +1,18 @@
 -- The numbers of the office stay within their limits.
-use Rattle.std.proofs.Common.{◌≡◌, ℕ, ◌<◌, ◌≤◌, Bool, true, false, cond, not, ◌||◌, nat_lt, List, [], ◌∷◌, ◌++◌, length, filter, find, Option, None, Some, unwrap_or, MatchOption, refl, sym, ◌∙◌, ap, subst, arith, append-nil, ltb-false, le-ltb}
+use Rattle.std.proofs.Common.{◌≡◌, ℕ, ◌<◌, ◌≤◌, Bool, true, false, cond, not, ◌||◌, nat_lt, List, [], ◌∷◌, ◌++◌, length, filter, Option, None, Some, unwrap_or, MatchOption, refl, sym, ◌∙◌, ap, subst, arith, append-nil, ltb-false, le-ltb}
 use Rattle.std.specs.List.{AllByRecursion as Every, list_any}
 use Rattle.std.specs.Map.{lookup}
 use Rattle.std.proofs.lemmas.Bool.{or_parts}
 use Rattle.std.proofs.lemmas.List.Folds.{list_any-append}
+use Rattle.pc_base.specs.declared.refusal.LimitWord.{LimitWord}
 use Rattle.pc_base.specs.declared.refusal.LimitWord.TheVariants as limit
 use Rattle.pc_message.specs.declared.lists.Mail.{Mail}
 use Rattle.pc_message.specs.Message.{weight_of}
-use Rattle.pc_history.specs.declared.limits.TheConstants.{LAST_MAIL}
-use Rattle.pc_history.specs.Table.{same, other_names, total}
-use Rattle.pc_history.proofs.Tables.{is_among-keys, some-none}
-use Rattle.pc_history.proofs.Numbers.{length-filter-le, total-append, total-filter}
+use Rattle.pc_message.specs.declared.limits.TheConstants.{LAST_MAIL}
+use Rattle.pc_tables.specs.Table.{same, other_names, total}
+use Rattle.pc_tables.proofs.Table.{is_among-keys}
+use Rattle.pc_tables.proofs.Lists.{length-filter-le, Every-weaker, none-found}
+use Rattle.pc_tables.proofs.Totals.{total-append, total-filter}
 use Rattle.pc_office_history.specs.declared.limits.TheConstants.{MOST_ADDRESSES, MOST_WAITING, MOST_WAITING_WEIGHT, MOST_BOARD_MESSAGES, MOST_BOARD_WEIGHT}
 use Rattle.pc_office_history.specs.declared.kept.KeptMail.{KeptMail}
 use Rattle.pc_office_history.specs.declared.entry.OfficeEntry.{OfficeEntry}
@@ -25,10 +27,6 @@ use Rattle.pc_office_history.specs.Legal.{IsKept, IsWellFormed, IsCanonical, IsL
 use Rattle.pc_office_history.proofs.Mails.{Every-mails_for, mail-unpulled}
 use Rattle.pc_office_history.proofs.Agreement.{absent, is_free-parts}
 use Rattle.pc_office_history.proofs.Histories.{Stands-legal}
-
-none-found : {X : Type 0} (p : X → Bool) (xs : List X) → find p xs ≡ None → Every (λ x. p x ≡ false) xs
-none-found p [] h = tt
-none-found {X} p (x ∷ xs) h = elim (p x) as (λ b. ◌≡◌ {A = Option X} (cond b (Some x) (find p xs)) None → (b ≡ false) × Every (λ y. p y ≡ false) xs) [ true ↦ λ g. absurd (some-none x g) | false ↦ λ g. (refl, none-found p xs g) ] h
 
 not-more : (most count fewer : ℕ) → fewer ≤ count → nat_lt most count ≡ false → nat_lt most fewer ≡ false
 not-more most count fewer le h = le-ltb most fewer (omega (arith, ltb-false most count h))
@@ -75,54 +73,58 @@ KnowsNames-legal h legal = let stands = Stands-legal h legal in subst KnowsNames
 -- ---- limit by limit
 
 module _ (k : Known) (knows : KnowsNames k) where
-  users-within : (e : OfficeEntry) → limit_passed k e ≡ None → is_passed k limit.Users ≡ false → is_passed (after_entry k e) limit.Users ≡ false
-  users-within (AddUser user) passed h = (none-found (would_pass k (AddUser user)) (limits_of (AddUser user)) passed).0
-  users-within (AddBoard board) passed h = h
-  users-within _ passed h = h
+  -- where the entry is held to this limit, it doesn't pass it
+  abbrev IsHeld : OfficeEntry → LimitWord → Type 0
+  IsHeld e word = Every (λ held. held ≡ word → would_pass k e word ≡ false) (limits_of e)
 
-  boards-within : (e : OfficeEntry) → limit_passed k e ≡ None → is_passed k limit.Boards ≡ false → is_passed (after_entry k e) limit.Boards ≡ false
-  boards-within (AddBoard board) passed h = (none-found (would_pass k (AddBoard board)) (limits_of (AddBoard board)) passed).0
-  boards-within (AddUser user) passed h = h
-  boards-within _ passed h = h
+  pub users-within : (e : OfficeEntry) → IsHeld e limit.Users → is_passed k limit.Users ≡ false → is_passed (after_entry k e) limit.Users ≡ false
+  users-within (AddUser user) held h = held.0 refl
+  users-within (AddBoard board) held h = h
+  users-within _ held h = h
 
-  addresses-within : (e : OfficeEntry) → limit_passed k e ≡ None → is_passed k limit.Addresses ≡ false → is_passed (after_entry k e) limit.Addresses ≡ false
-  addresses-within (AddUser user) passed h = (none-found (would_pass k (AddUser user)) (limits_of (AddUser user)) passed).1.0
-  addresses-within (TakeAddress address user mailbox) passed h = (none-found (would_pass k (TakeAddress address user mailbox)) (limits_of (TakeAddress address user mailbox)) passed).0
-  addresses-within (DropAddress address) passed h = not-more MOST_ADDRESSES (length k.addresses) (length (other_names address k.addresses)) (length-filter-le (λ other. not (same address other)) k.addresses) h
-  addresses-within (AddBoard board) passed h = h
-  addresses-within _ passed h = h
+  pub boards-within : (e : OfficeEntry) → IsHeld e limit.Boards → is_passed k limit.Boards ≡ false → is_passed (after_entry k e) limit.Boards ≡ false
+  boards-within (AddBoard board) held h = held.0 refl
+  boards-within (AddUser user) held h = h
+  boards-within _ held h = h
+
+  pub addresses-within : (e : OfficeEntry) → IsHeld e limit.Addresses → is_passed k limit.Addresses ≡ false → is_passed (after_entry k e) limit.Addresses ≡ false
+  addresses-within (AddUser user) held h = held.1.0 refl
+  addresses-within (TakeAddress address user mailbox) held h = held.0 refl
+  addresses-within (DropAddress address) held h = not-more MOST_ADDRESSES (length k.addresses) (length (other_names address k.addresses)) (length-filter-le (λ other. not (same address other)) k.addresses) h
+  addresses-within (AddBoard board) held h = h
+  addresses-within _ held h = h
 
   -- no user has more than before
   fewer-users : (noted : List ℕ → ℕ) → list_any (λ user. are_too_many (k.waiting user)) k.users ≡ false → list_any (λ user. are_too_many (filter (is_past (noted user)) (k.waiting user ++ []))) k.users ≡ false
   fewer-users noted h = list_any-weaker (λ user. are_too_many (k.waiting user)) (λ user. are_too_many (filter (is_past (noted user)) (k.waiting user ++ []))) k.users (λ user g. fewer-mails (noted user) (k.waiting user) g) h
 
-  waiting-within : (e : OfficeEntry) → is_allowed k e ≡ true → limit_passed k e ≡ None → is_passed k limit.Waiting ≡ false → is_passed (after_entry k e) limit.Waiting ≡ false
-  waiting-within e allowed passed h = by_entry e allowed passed
+  pub waiting-within : (e : OfficeEntry) → is_allowed k e ≡ true → IsHeld e limit.Waiting → is_passed k limit.Waiting ≡ false → is_passed (after_entry k e) limit.Waiting ≡ false
+  waiting-within e allowed held h = by_entry e allowed held
     where
       parts : (list_any (λ user. are_too_many (k.waiting user)) k.users ≡ false) × (nat_lt LAST_MAIL k.accepted ≡ false)
       parts = or_parts (list_any (λ user. are_too_many (k.waiting user)) k.users) (nat_lt LAST_MAIL k.accepted) h
 
-      by_entry : (e' : OfficeEntry) → is_allowed k e' ≡ true → limit_passed k e' ≡ None → is_passed (after_entry k e') limit.Waiting ≡ false
-      by_entry (Accept names message) allowed' passed' = (none-found (would_pass k (Accept names message)) (limits_of (Accept names message)) passed').1.0
-      by_entry (Pulled by number) allowed' passed' = λ i. fewer-users (λ user. cond (same by user) number (k.noted user)) parts.0 i || parts.1 i
-      by_entry (AddUser user) allowed' passed' =
+      by_entry : (e' : OfficeEntry) → is_allowed k e' ≡ true → IsHeld e' limit.Waiting → is_passed (after_entry k e') limit.Waiting ≡ false
+      by_entry (Accept names message) allowed' held' = held'.1.0 refl
+      by_entry (Pulled by number) allowed' held' = λ i. fewer-users (λ user. cond (same by user) number (k.noted user)) parts.0 i || parts.1 i
+      by_entry (AddUser user) allowed' held' =
           let none = knows.nothing user (is_free-parts k user allowed').0 in
           let q = λ (name : List ℕ). are_too_many (filter (is_past (k.noted name)) (k.waiting name ++ [])) in
           let last : q user ≡ false = ap (λ mails. are_too_many (filter (is_past (k.noted user)) (mails ++ []))) none in
           (λ i. list_any-append q k.users (user ∷ []) i || nat_lt LAST_MAIL k.accepted)
           ∙ (λ i. (fewer-users k.noted parts.0 i || (last i || false)) || parts.1 i)
-      by_entry (AddBoard board) allowed' passed' = λ i. fewer-users k.noted parts.0 i || parts.1 i
-      by_entry _ allowed' passed' = λ i. fewer-users k.noted parts.0 i || parts.1 i
+      by_entry (AddBoard board) allowed' held' = λ i. fewer-users k.noted parts.0 i || parts.1 i
+      by_entry _ allowed' held' = λ i. fewer-users k.noted parts.0 i || parts.1 i
 
-  board-within : (e : OfficeEntry) → is_allowed k e ≡ true → limit_passed k e ≡ None → is_passed k limit.Board ≡ false → is_passed (after_entry k e) limit.Board ≡ false
-  board-within e allowed passed h = by_entry e allowed passed
+  pub board-within : (e : OfficeEntry) → is_allowed k e ≡ true → IsHeld e limit.Board → is_passed k limit.Board ≡ false → is_passed (after_entry k e) limit.Board ≡ false
+  board-within e allowed held h = by_entry e allowed held
     where
       same_boards : (list_any (λ name. nat_lt MOST_BOARD_MESSAGES (length (k.messages name ++ []))) k.boards || nat_lt MOST_BOARD_WEIGHT (total (λ name. total weight_of (k.messages name ++ [])) k.boards)) ≡ false
       same_boards = (λ i. list_any (λ name. nat_lt MOST_BOARD_MESSAGES (length (append-nil (k.messages name) i))) k.boards || nat_lt MOST_BOARD_WEIGHT (total (λ name. total weight_of (append-nil (k.messages name) i)) k.boards)) ∙ h
 
-      by_entry : (e' : OfficeEntry) → is_allowed k e' ≡ true → limit_passed k e' ≡ None → is_passed (after_entry k e') limit.Board ≡ false
-      by_entry (Accept names message) allowed' passed' = (none-found (would_pass k (Accept names message)) (limits_of (Accept names message)) passed').1.1.0
-      by_entry (AddBoard board) allowed' passed' =
+      by_entry : (e' : OfficeEntry) → is_allowed k e' ≡ true → IsHeld e' limit.Board → is_passed (after_entry k e') limit.Board ≡ false
+      by_entry (Accept names message) allowed' held' = held'.1.1.0 refl
+      by_entry (AddBoard board) allowed' held' =
           let parts = or_parts (list_any (λ name. nat_lt MOST_BOARD_MESSAGES (length (k.messages name ++ []))) k.boards) (nat_lt MOST_BOARD_WEIGHT (total (λ name. total weight_of (k.messages name ++ [])) k.boards)) same_boards in
           let none = knows.blank board (is_free-parts k board allowed').1 in
           let q = λ (name : List ℕ). nat_lt MOST_BOARD_MESSAGES (length (k.messages name ++ [])) in
@@ -132,11 +134,26 @@ module _ (k : Known) (knows : KnowsNames k) where
           let same_weight : total w (k.boards ++ board ∷ []) ≡ total w k.boards = omega (arith, total-append w k.boards (board ∷ []), nothing) in
           (λ i. list_any-append q k.boards (board ∷ []) i || nat_lt MOST_BOARD_WEIGHT (same_weight i))
           ∙ (λ i. (parts.0 i || (last i || false)) || parts.1 i)
-      by_entry (AddUser user) allowed' passed' = same_boards
-      by_entry _ allowed' passed' = same_boards
+      by_entry (AddUser user) allowed' held' = same_boards
+      by_entry _ allowed' held' = same_boards
+
+  held-of : (e : OfficeEntry) (word : LimitWord) → limit_passed k e ≡ None → IsHeld e word
+  held-of e word passed = Every-weaker (λ held. would_pass k e held ≡ false) (λ held. held ≡ word → would_pass k e word ≡ false) (λ held within is. subst (λ one. would_pass k e one ≡ false) is within) (limits_of e) (none-found (would_pass k e) (limits_of e) passed)
 
   pub within-after : (e : OfficeEntry) → is_allowed k e ≡ true → limit_passed k e ≡ None → IsWithin k limits_of_bases → IsWithin (after_entry k e) limits_of_bases
-  within-after e allowed passed h = (users-within e passed h.0, (boards-within e passed h.1.0, (addresses-within e passed h.1.1.0, (waiting-within e allowed passed h.1.1.1.0, (board-within e allowed passed h.1.1.1.1.0, tt)))))
+  within-after e allowed passed (users, (boards, (addresses, (waiting, (board, _))))) = (
+    users-within e (held-of e limit.Users passed) users,
+    (
+      boards-within e (held-of e limit.Boards passed) boards,
+      (
+        addresses-within e (held-of e limit.Addresses passed) addresses,
+        (
+          waiting-within e allowed (held-of e limit.Waiting passed) waiting,
+          (board-within e allowed (held-of e limit.Board passed) board, tt),
+        ),
+      ),
+    ),
+  )
 
 pub IsWithin-legal : (h : History) → IsLegal h → IsWithin (known h) limits_of_bases
 IsWithin-legal (start r number) legal = legal.within

@@ -3,8 +3,8 @@ use Rattle.std.specs.Prelude.{ℕ, Bool, false, ◌&&◌, List, take, Option, No
 use Rattle.std.specs.Option.{option_map_or}
 use Rattle.std.specs.List.{filter}
 use Rattle.pc_message.specs.declared.lists.Mail.{Mail}
-use Rattle.pc_history.specs.declared.limits.TheConstants.{MOST_LETTERS}
-use Rattle.pc_history.specs.Table.{same}
+use Rattle.pc_message.specs.declared.limits.TheConstants.{MOST_LETTERS}
+use Rattle.pc_tables.specs.Table.{same}
 use Rattle.pc_office_history.specs.Known.{Known, is_past}
 use Rattle.pc_office_history.specs.Allowed.{is_board}
 

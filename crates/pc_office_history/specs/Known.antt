@@ -4,7 +4,7 @@ use Rattle.std.specs.Prelude.{ℕ, Bool, nat_lt, List, [], ◌++◌, Option, unw
 use Rattle.std.specs.List.{filter}
 use Rattle.std.specs.Map.{lookup, keys_of}
 use Rattle.pc_message.specs.declared.lists.Mail.{Mail}
-use Rattle.pc_history.specs.Table.{same}
+use Rattle.pc_tables.specs.Table.{same}
 use Rattle.pc_office_history.specs.declared.kept.Target.{Target}
 use Rattle.pc_office_history.specs.declared.entry.OfficeEntry.{OfficeEntry}
 use Rattle.pc_office_history.specs.Record.{OfficeRecord, mails_for}

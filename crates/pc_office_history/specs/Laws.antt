@@ -1,15 +1,15 @@
 -- What holds of every legal history.
 use Rattle.std.specs.Prelude.{◌≡◌, ℕ, suc, ◌+◌, ◌*◌, ◌<◌, ◌≤◌, ◌↔◌, ◌&&◌, ⊤, true, false, List, [], ◌∷◌, ◌++◌, map, Option, None, Some, MatchOption, Contains, slice_get, length, if◌then◌else◌}
-use Rattle.std.specs.List.{AllByRecursion, filter, filter_map, list_any}
+use Rattle.std.specs.List.{AllByRecursion, filter, filter_map, find, list_any}
 use Rattle.std.specs.Map.{keys_of}
 use Rattle.pc_base.specs.declared.refusal.LimitWord.{LimitWord}
 use Rattle.pc_base.specs.declared.refusal.LimitWord.TheVariants as limit
+use Rattle.pc_base.specs.Name.{inbox}
 use Rattle.pc_message.specs.declared.lists.Mail.{Mail}
 use Rattle.pc_message.specs.Message.{weight_of}
-use Rattle.pc_history.specs.declared.limits.TheConstants.{MOST_LETTERS, LAST_MAIL}
-use Rattle.pc_history.specs.Allowed.{inbox}
-use Rattle.pc_history.specs.Table.{same, is_among, numbers, total}
-use Rattle.pc_history.specs.Legal.{Ordered}
+use Rattle.pc_message.specs.declared.limits.TheConstants.{MOST_LETTERS, LAST_MAIL}
+use Rattle.pc_tables.specs.Table.{same, is_among, numbers, total}
+use Rattle.pc_tables.specs.Order.{Ordered}
 use Rattle.pc_office_history.specs.declared.limits.TheConstants.{MOST_USERS, MOST_WAITING, MOST_WAITING_WEIGHT}
 use Rattle.pc_office_history.specs.declared.kept.Target.{Target}
 use Rattle.pc_office_history.specs.declared.kept.KeptMail.{KeptMail}
@@ -64,6 +64,17 @@ LimitsHold = (h : History) → IsLegal h → IsWithin (known h) limits_of_bases
 -- an entry is refused for a limit only where it passes it
 abbrev pub LimitIsPassed : Type 0
 LimitIsPassed = (h : History) (e : OfficeEntry) (limit : LimitWord) → limit_passed (known h) e ≡ Some limit → would_pass (known h) e limit ≡ true
+
+-- all limits, in the order in which they are told
+abbrev pub limits_in_order : List LimitWord
+limits_in_order = limit.Users ∷ limit.Boards ∷ limit.Addresses ∷ limit.Recipients ∷ limit.Waiting ∷ limit.Board ∷ []
+
+-- an allowed entry is told the first of all limits, in their order, that it would pass,
+-- and none where it would pass none
+abbrev pub FirstLimitIsTold : Type 0
+FirstLimitIsTold = (h : History) → IsLegal h → (e : OfficeEntry)
+    → is_allowed (known h) e ≡ true
+    → limit_passed (known h) e ≡ find (would_pass (known h) e) limits_in_order
 
 -- an allowed entry that passes no limit makes of a canonical record one that says what is known after the entry
 abbrev pub StepIsOneEntryMore : Type 0

@@ -5,8 +5,8 @@ use Rattle.pc_base.specs.declared.refusal.LimitWord.{LimitWord}
 use Rattle.pc_base.specs.declared.refusal.LimitWord.TheVariants as limit
 use Rattle.pc_message.specs.declared.lists.Mail.{Mail}
 use Rattle.pc_message.specs.Message.{weight_of}
-use Rattle.pc_history.specs.declared.limits.TheConstants.{LAST_MAIL}
-use Rattle.pc_history.specs.Table.{total}
+use Rattle.pc_message.specs.declared.limits.TheConstants.{LAST_MAIL}
+use Rattle.pc_tables.specs.Table.{total}
 use Rattle.pc_office_history.specs.declared.entry.OfficeEntry.{OfficeEntry}
 use Rattle.pc_office_history.specs.declared.entry.OfficeEntry.TheVariants.{AddUser, AddBoard, TakeAddress, Accept}
 use Rattle.pc_office_history.specs.declared.limits.TheConstants.{MOST_USERS, MOST_BOARDS, MOST_ADDRESSES, MOST_RECIPIENTS, MOST_WAITING, MOST_WAITING_WEIGHT, MOST_BOARD_MESSAGES, MOST_BOARD_WEIGHT}

@@ -2,8 +2,8 @@
 use Rattle.std.specs.Prelude.{ℕ, suc, Bool, true, false, nat_le, List, [], ◌∷◌, ◌++◌, map, if◌then◌else◌}
 use Rattle.std.specs.List.{filter}
 use Rattle.std.specs.Map.{lookup, set_value}
-use Rattle.pc_history.specs.Table.{same, is_among, others}
-use Rattle.pc_history.specs.Allowed.{inbox}
+use Rattle.pc_base.specs.Name.{inbox}
+use Rattle.pc_tables.specs.Table.{same, is_among, others}
 use Rattle.pc_office_history.specs.declared.kept.Target.{Target}
 use Rattle.pc_office_history.specs.declared.kept.KeptMail.{KeptMail}
 use Rattle.pc_office_history.specs.declared.entry.OfficeEntry.{OfficeEntry}

@@ -1,6 +1,6 @@
 //! What holds of every legal history. Each law is the contract of a function that does nothing.
 
-ghost use Rattle.pc_office_history.specs.Laws.{RecordAnswersAsHistory, RecordInPlaceOfHistory, RecordIsCanonical, LimitsHold, LimitIsPassed, StepIsOneEntryMore, StepIsFormedAgain, RecordIsReadOff, RecordIsBounded, NamesAreApart, OwnNameStays, OwnNamesAreKept, TargetIsOfFirstName, MailsAreNumbered, MailHasItsNumber, WaitingIsPastNoted, WaitingIsInOrder, NumbersNeverFall, AcceptedMailWaits, MailIsAdded, PulledIsTaken, WaitingStays, MailsAreToldInOrder, NothingIsLeftOut, WaitingIsOfTargets, BoardsOnlyGrow, MessageIsAdded, WeightIsAdded};
+ghost use Rattle.pc_office_history.specs.Laws.{RecordAnswersAsHistory, RecordInPlaceOfHistory, RecordIsCanonical, LimitsHold, LimitIsPassed, FirstLimitIsTold, StepIsOneEntryMore, StepIsFormedAgain, RecordIsReadOff, RecordIsBounded, NamesAreApart, OwnNameStays, OwnNamesAreKept, TargetIsOfFirstName, MailsAreNumbered, MailHasItsNumber, WaitingIsPastNoted, WaitingIsInOrder, NumbersNeverFall, AcceptedMailWaits, MailIsAdded, PulledIsTaken, WaitingStays, MailsAreToldInOrder, NothingIsLeftOut, WaitingIsOfTargets, BoardsOnlyGrow, MessageIsAdded, WeightIsAdded};
 
 /// The record of a history answers every question as the history does.
 pub fn record_answers_as_history()
@@ -25,6 +25,11 @@ pub fn limits_hold()
 /// A limit is told only where it would be passed.
 pub fn limit_is_passed()
     ensures { LimitIsPassed }
+{}
+
+/// Of all limits the first that would be passed is told.
+pub fn first_limit_is_told()
+    ensures { FirstLimitIsTold }
 {}
 
 /// The step of a record is one entry more.

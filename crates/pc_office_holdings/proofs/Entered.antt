@@ -5,12 +5,11 @@ use Rattle.std.specs.Map.{lookup, keys_of, set_value}
 use Rattle.std.proofs.lemmas.Bool.{and_parts}
 use Rattle.pc_message.specs.declared.lists.Mail.{Mail}
 use Rattle.pc_message.specs.Message.{weight_of}
-use Rattle.pc_history.specs.Table.{same}
-use Rattle.pc_history.specs.Legal.{AreDistinct}
-use Rattle.pc_history.proofs.Tables.{same-true}
-use Rattle.pc_history.proofs.Uids.{Every-append}
-use Rattle.pc_history.proofs.Numbers.{total-append}
-use Rattle.pc_history.proofs.FormedAfter.{Every-split}
+use Rattle.pc_tables.specs.Table.{same}
+use Rattle.pc_tables.specs.Order.{AreDistinct}
+use Rattle.pc_tables.proofs.Table.{same-true}
+use Rattle.pc_tables.proofs.Lists.{Every-append, Every-split}
+use Rattle.pc_tables.proofs.Totals.{total-append}
 use Rattle.pc_office_history.specs.declared.kept.Target.{Target}
 use Rattle.pc_office_history.specs.declared.kept.KeptMail.{KeptMail}
 use Rattle.pc_office_history.specs.declared.entry.OfficeEntry.{OfficeEntry}

@@ -3,8 +3,8 @@ use Rattle.std.proofs.Common.{◌≡◌, ℕ, ◌+◌, ◌<◌, ◌≤◌, Bool,
 use Rattle.std.specs.Option.{option_map_or}
 use Rattle.std.proofs.lemmas.List.{take_more, take_all}
 use Rattle.std.proofs.lemmas.List.Elements.{filter-append}
-use Rattle.pc_history.specs.Table.{same}
-use Rattle.pc_history.proofs.Tables.{same-sym}
+use Rattle.pc_tables.specs.Table.{same}
+use Rattle.pc_tables.proofs.Table.{same-sym}
 use Rattle.pc_office_history.specs.declared.kept.Target.{Target}
 use Rattle.pc_office_history.specs.Record.{target_of}
 use Rattle.pc_office_history.specs.Effect.{other_targets, targets_of}

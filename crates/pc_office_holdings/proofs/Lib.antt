@@ -2,7 +2,6 @@ pub mod Entered
 pub mod FirstTargets
 pub mod ForNobody
 pub mod FreeNames
-pub mod Fronts
 pub mod Noted
 pub mod Posts
 pub mod Standings

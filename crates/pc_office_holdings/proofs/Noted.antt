@@ -1,8 +1,8 @@
 -- The users with what is noted of them, read off what is held.
 use Rattle.std.proofs.Common.{◌≡◌, ℕ, true, false, cond, List, [], ◌∷◌, map, Some, option_map, is_some, refl, ◌∙◌, ap}
 use Rattle.std.specs.Map.{lookup, keys_of}
-use Rattle.pc_history.specs.Table.{same, is_among}
-use Rattle.pc_history.proofs.Tables.{is_among-keys}
+use Rattle.pc_tables.specs.Table.{same, is_among}
+use Rattle.pc_tables.proofs.Table.{is_among-keys}
 use Rattle.pc_office_holdings.specs.declared.users.Standing.{Standing}
 use Rattle.pc_office_holdings.specs.Held.{noted_of}
 

@@ -4,12 +4,13 @@ use Rattle.std.specs.List.{list_any}
 use Rattle.std.specs.Map.{keys_of, values_of}
 use Rattle.indexmap.specs.IndexMap.{set_value_at}
 use Rattle.pc_message.specs.Message.{weight_of}
-use Rattle.pc_history.specs.Table.{same, is_among, total}
-use Rattle.pc_history.proofs.Tables.{same-sym}
-use Rattle.pc_history.proofs.Numbers.{total-append}
+use Rattle.pc_tables.specs.Table.{same, is_among, total}
+use Rattle.pc_tables.proofs.Table.{same-sym}
+use Rattle.pc_tables.proofs.Totals.{total-append}
 use Rattle.pc_office_holdings.specs.Held.{weight_on, weight_on_all}
-use Rattle.pc_office_holdings.specs.Step.{front_mapped, posted}
-use Rattle.pc_office_holdings.proofs.Fronts.{front-kept, front-set, entry-at, total-set-at}
+use Rattle.pc_tables.specs.Fronts.{front_mapped}
+use Rattle.pc_office_holdings.specs.Step.{posted}
+use Rattle.pc_tables.proofs.Fronts.{front-kept, front-set, entry-at, total-set-at}
 
 abbrev pub Board : Type 0
 Board = List ℕ × List (List (List ℕ))

@@ -1,10 +1,10 @@
 -- What an entry makes of what the office holds.
 use Rattle.std.specs.Prelude.{ℕ, zero, suc, ◌+◌, ◌%◌, ◌^◌, List, [], ◌∷◌, ◌++◌, map, length, Option, None, Some, is_some, if◌then◌else◌}
 use Rattle.std.specs.Map.{lookup, set_value}
+use Rattle.pc_base.specs.Name.{inbox}
 use Rattle.pc_message.specs.declared.lists.Mail.{Mail}
 use Rattle.pc_message.specs.Message.{weight_of}
-use Rattle.pc_history.specs.Table.{same, is_among, others}
-use Rattle.pc_history.specs.Allowed.{inbox}
+use Rattle.pc_tables.specs.Table.{same, is_among, others}
 use Rattle.pc_office_history.specs.declared.kept.Target.{Target}
 use Rattle.pc_office_history.specs.declared.kept.KeptMail.{KeptMail}
 use Rattle.pc_office_history.specs.declared.entry.OfficeEntry.{OfficeEntry}
@@ -15,12 +15,6 @@ use Rattle.pc_office_history.specs.Limits.{mail_weight}
 use Rattle.pc_office_history.specs.Step.{still_waiting, pulled_by, with_message}
 use Rattle.pc_office_holdings.specs.declared.users.Standing.{Standing}
 use Rattle.pc_office_holdings.specs.Held.{Held}
-
--- the list with the first so many items changed
-abbrev pub front_mapped : {X : Type 0} → (X → X) → ℕ → List X → List X
-front_mapped change zero items = items
-front_mapped change (suc count) [] = []
-front_mapped change (suc count) (item ∷ items) = change item ∷ front_mapped change count items
 
 -- the standing of a user for whom nothing waits
 abbrev pub new_standing : Standing

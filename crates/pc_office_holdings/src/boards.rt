@@ -2,15 +2,16 @@
 
 ghost use Rattle.std.specs.Prelude.{◌≡◌, ℕ, suc, ◌<◌, ◌%◌, ◌^◌, List, ◌++◌, [], ◌∷◌, None, option_copied, map, length, OnOk, OnErr};
 ghost use Rattle.std.specs.Map.{lookup, keys_of};
-ghost use Rattle.pc_history.specs.Table.{same, total};
+ghost use Rattle.pc_tables.specs.Table.{same, total};
 ghost use Rattle.pc_message.specs.Message.{weight_of};
 ghost use Rattle.pc_office_holdings.specs.Held.{weight_on_all};
-ghost use Rattle.pc_office_holdings.specs.Step.{front_mapped, posted};
+ghost use Rattle.pc_tables.specs.Fronts.{front_mapped};
+ghost use Rattle.pc_office_holdings.specs.Step.{posted};
 
 use indexmap::IndexMap;
 use pc_base::{Memory, Name, Names};
-use pc_holdings::tables;
 use pc_message::Message;
+use pc_tables::tables;
 use std::alloc::Global;
 use std::marker::Model;
 

@@ -2,8 +2,8 @@
 
 ghost use Rattle.std.specs.Prelude.{◌≡◌, ◌<◌, ◌^◌, ◌-◌, [], ◌∷◌, ◌++◌, map, None, IsTrue, IfOk, OnOk};
 ghost use Rattle.std.specs.Map.{lookup};
-ghost use Rattle.pc_history.specs.Table.{same};
-ghost use Rattle.pc_history.specs.Allowed.{inbox};
+ghost use Rattle.pc_base.specs.Name.{inbox};
+ghost use Rattle.pc_tables.specs.Table.{same};
 ghost use Rattle.pc_message.specs.Message.{weight_of};
 ghost use Rattle.pc_office_history.specs.declared.entry.OfficeEntry.TheVariants as entry;
 ghost use Rattle.pc_office_history.specs.Effect.{targets_of};
@@ -18,9 +18,9 @@ use crate::boards::Boards;
 use crate::users::{Standing, Users};
 use indexmap::IndexMap;
 use pc_base::{Memory, Name};
-use pc_holdings::tables;
 use pc_message::Message;
 use pc_office_history::{KeptMail, OfficeEntry, Target, Targets};
+use pc_tables::tables;
 use std::alloc::Global;
 use std::marker::Model;
 
@@ -158,7 +158,7 @@ impl Holdings {
         ensures { OnOk result (self.new ≡ entered self.old (entry.AddUser user.now)) }
     {
         self.users.add(alloc, *user)?;
-        self.take_address(user, user, &inbox())
+        self.take_address(user, user, &Name::inbox())
     }
 
     /// Takes an address for a mailbox of a user.
@@ -252,15 +252,5 @@ impl Holdings {
             }
         }
         standing
-    }
-}
-
-/// The mailbox of new mail.
-fn inbox() -> Name
-    ensures { result ≡ inbox }
-{
-    match Name::read(b"inbox") {
-        Some(name) => name,
-        None => unreachable!(),
     }
 }

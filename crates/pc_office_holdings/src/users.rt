@@ -3,15 +3,16 @@
 ghost use Rattle.std.specs.Prelude.{◌≡◌, ℕ, suc, ◌<◌, List, ◌++◌, [], ◌∷◌, None, false, is_some, map, length, slice_get, OnOk};
 ghost use Rattle.std.specs.Option.{option_map_or};
 ghost use Rattle.std.specs.Map.{lookup, set_value, keys_of};
-ghost use Rattle.pc_history.specs.Table.{same};
+ghost use Rattle.pc_tables.specs.Table.{same};
 ghost use Rattle.pc_office_history.specs.Record.{target_of};
 ghost use Rattle.pc_office_holdings.specs.declared.users.Standing.{Standing};
-ghost use Rattle.pc_office_holdings.specs.Step.{new_standing, with_mail, front_mapped, awaited};
+ghost use Rattle.pc_tables.specs.Fronts.{front_mapped};
+ghost use Rattle.pc_office_holdings.specs.Step.{new_standing, with_mail, awaited};
 
 use indexmap::IndexMap;
 use pc_base::{Memory, Name, Names};
-use pc_holdings::tables;
 use pc_office_history::Targets;
+use pc_tables::tables;
 use std::alloc::Global;
 use std::marker::Model;
 

@@ -1,9 +1,9 @@
 -- Reading item after item, where each depends on those before it.
 use Rattle.std.proofs.Common.{◌≡◌, ℕ, zero, suc, ◌+◌, ◌-◌, ◌<◌, ◌≤◌, List, [], ◌∷◌, ◌++◌, Result, Ok, Err, sym, ap, subst, arith}
 use Rattle.std.specs.Result.{IsErr, IsErrAnd}
-use Rattle.pc_spelling.specs.Format.{Format, bind, Reads}
-use Rattle.pc_spelling.specs.declared.spelling.cursor.Halt.{Halt}
-use Rattle.pc_spelling.proofs.Follows.{Follows, follows_first, follows_part, follows_halt, follows_last}
+use Rattle.pc_fields.specs.Format.{Format, bind, Reads}
+use Rattle.pc_fields.specs.declared.cursor.Halt.{Halt}
+use Rattle.pc_fields.proofs.Follows.{Follows, follows_first, follows_part, follows_halt, follows_last}
 use Rattle.pc_office_spelling.specs.RecordFormat.{items_from}
 
 module _ {X : Type 0} (item : ℕ → List X → Format X) where

@@ -4,12 +4,12 @@ use Rattle.std.specs.List.{list_all, AllByRecursion as Every}
 use Rattle.std.specs.Map.{keys_of}
 use Rattle.std.specs.Result.{IsErr, IsErrAnd}
 use Rattle.std.proofs.lemmas.Bool.{ltb-true, and_parts}
-use Rattle.pc_history.specs.Legal.{AreDistinct}
-use Rattle.pc_spelling.specs.Fields.{u16_kind, u32_kind, u64_kind, FieldReads}
-use Rattle.pc_spelling.specs.Format.{Format, ends, goes, bind, Reads}
-use Rattle.pc_spelling.specs.RecordFormat.{message_within}
-use Rattle.pc_spelling.specs.declared.spelling.cursor.Halt.{Halt}
-use Rattle.pc_spelling.proofs.Formats.{nothing_more, after_field, no_field, after_part, no_part}
+use Rattle.pc_tables.specs.Order.{AreDistinct}
+use Rattle.pc_fields.specs.Fields.{u16_kind, u32_kind, u64_kind, FieldReads}
+use Rattle.pc_fields.specs.Format.{Format, ends, goes, bind, Reads}
+use Rattle.pc_fields.specs.MessageFormat.{message_within}
+use Rattle.pc_fields.specs.declared.cursor.Halt.{Halt}
+use Rattle.pc_fields.proofs.Formats.{nothing_more, after_field, no_field, after_part, no_part}
 use Rattle.pc_office_history.specs.declared.kept.Target.{Target}
 use Rattle.pc_office_history.specs.declared.kept.KeptMail.{KeptMail}
 use Rattle.pc_office_spelling.specs.Spaces.{space_of, can_follow, open_users, may_wait, greatest}

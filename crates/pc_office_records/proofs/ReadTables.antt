@@ -4,15 +4,15 @@ use Rattle.std.specs.Map.{keys_of, lookup}
 use Rattle.std.proofs.lemmas.Bool.{or_parts}
 use Rattle.std.proofs.lemmas.List.Folds.{list_any-append}
 use Rattle.pc_message.specs.Message.{size_of, weight_of}
-use Rattle.pc_history.specs.Table.{same, is_among, total}
-use Rattle.pc_history.proofs.Tables.{is_among-keys}
-use Rattle.pc_history.proofs.Numbers.{total-append}
-use Rattle.pc_history.proofs.Uids.{Every-append}
-use Rattle.pc_spelling.specs.Fields.{Kind, Held, name_kind, u32_kind, within, FieldReads}
-use Rattle.pc_spelling.specs.Format.{Format, Reads}
-use Rattle.pc_spelling.specs.RecordFormat.{is_new, message_within}
-use Rattle.pc_spelling.specs.declared.spelling.cursor.Halt.{Halt}
-use Rattle.pc_spelling.proofs.Follows.{Follows}
+use Rattle.pc_tables.specs.Table.{same, is_among, total}
+use Rattle.pc_tables.proofs.Table.{is_among-keys}
+use Rattle.pc_tables.proofs.Totals.{total-append}
+use Rattle.pc_tables.proofs.Lists.{Every-append}
+use Rattle.pc_fields.specs.Fields.{Kind, Held, name_kind, u32_kind, within, FieldReads, is_new}
+use Rattle.pc_fields.specs.Format.{Format, Reads}
+use Rattle.pc_fields.specs.MessageFormat.{message_within}
+use Rattle.pc_fields.specs.declared.cursor.Halt.{Halt}
+use Rattle.pc_fields.proofs.Follows.{Follows}
 use Rattle.pc_office_spelling.specs.RecordFormat.{items_from, user_format, message_format}
 use Rattle.pc_office_holdings.specs.declared.users.Standing.{Standing}
 use Rattle.pc_office_holdings.specs.Held.{noted_of, weight_on_all}

@@ -2,7 +2,8 @@
 use Rattle.std.proofs.Common.{◌≡◌, ℕ, zero, suc, ◌+◌, ◌-◌, ◌<◌, ◌≤◌, Bool, true, false, cond, ◌&&◌, ◌||◌, ◌==◌, not, nat_lt, nat_le, List, refl, sym, ◌∙◌, arith, true≢false}
 use Rattle.std.specs.List.{list_all}
 use Rattle.std.proofs.lemmas.Bool.{leb-true, leb-false, le-leb, and_parts, and_from}
-use Rattle.pc_history.proofs.Numbers.{total-le, list_all-weaker}
+use Rattle.pc_tables.proofs.Totals.{total-le}
+use Rattle.pc_tables.proofs.Lists.{list_all-weaker}
 use Rattle.pc_office_history.specs.declared.limits.TheConstants.{MOST_WAITING_WEIGHT}
 use Rattle.pc_office_spelling.specs.Spaces.{space_beside, greatest}
 use Rattle.pc_office_spelling.proofs.Spaces.{greatest-most, greatest-least}

@@ -4,12 +4,11 @@ use Rattle.std.specs.List.{list_all, AllByRecursion as Every}
 use Rattle.std.specs.Map.{keys_of}
 use Rattle.std.proofs.lemmas.Bool.{lt-ltb, ltb-true, ltb-false, and_parts, and_from}
 use Rattle.pc_message.specs.Message.{size_of, weight_of}
-use Rattle.pc_history.specs.Table.{same, is_among}
-use Rattle.pc_history.specs.Legal.{AreDistinct}
-use Rattle.pc_history.proofs.Tables.{same-true, same-refl}
+use Rattle.pc_tables.specs.Table.{same, is_among}
+use Rattle.pc_tables.specs.Order.{AreDistinct}
+use Rattle.pc_tables.proofs.Table.{same-true, same-refl, list_all-among}
 use Rattle.std.proofs.lemmas.List.Folds.{list_all-append}
-use Rattle.pc_history.proofs.Numbers.{list_all-among}
-use Rattle.pc_history.proofs.Uids.{Every-weaker}
+use Rattle.pc_tables.proofs.Lists.{Every-weaker}
 use Rattle.pc_office_history.specs.declared.limits.TheConstants.{MOST_WAITING_WEIGHT}
 use Rattle.pc_office_history.specs.declared.kept.Target.{Target}
 use Rattle.pc_office_history.specs.declared.kept.KeptMail.{KeptMail}
@@ -17,7 +16,8 @@ use Rattle.pc_office_history.specs.Record.{target_of, mails_for}
 use Rattle.pc_office_history.specs.Limits.{mail_weight}
 use Rattle.pc_office_spelling.specs.Spaces.{space_beside, space_of, space_after, space_upto, users_of, can_follow, open_users, may_wait, greatest}
 use Rattle.pc_office_spelling.proofs.Waits.{behind-long, behind-heavy}
-use Rattle.pc_office_spelling.proofs.OpenUsers.{or-second, open-below}
+use Rattle.pc_fields.proofs.NewNames.{or-second}
+use Rattle.pc_office_spelling.proofs.OpenUsers.{open-below}
 use Rattle.pc_office_holdings.specs.declared.users.Standing.{Standing}
 use Rattle.pc_office_holdings.specs.Held.{noted_of, IsCounted}
 use Rattle.pc_office_holdings.specs.Step.{with_mail, awaited}

@@ -4,9 +4,9 @@ use Rattle.std.specs.List.{concat, list_any, AllByRecursion as Every}
 use Rattle.std.specs.Map.{keys_of}
 use Rattle.std.proofs.lemmas.Bool.{or_parts}
 use Rattle.std.proofs.lemmas.List.{drop_more}
-use Rattle.pc_history.specs.Table.{total}
-use Rattle.pc_history.proofs.Uids.{Every-weaker}
-use Rattle.pc_spelling.proofs.Loops.{concat-append}
+use Rattle.pc_tables.specs.Table.{total}
+use Rattle.pc_tables.proofs.Lists.{Every-weaker}
+use Rattle.pc_fields.proofs.Loops.{concat-append}
 use Rattle.pc_office_history.specs.declared.limits.TheConstants.{MOST_BOARD_MESSAGES, MOST_BOARD_WEIGHT}
 use Rattle.pc_office_history.specs.declared.kept.KeptMail.{KeptMail}
 use Rattle.pc_office_history.specs.Record.{OfficeRecord}

@@ -1,7 +1,7 @@
 -- What is loaded of an office.
 use Rattle.std.specs.Prelude.{◌≡◌, ℕ, ◌&&◌, nat_le, Bool, List}
 use Rattle.std.specs.List.{AllByRecursion, list_all}
-use Rattle.pc_history.specs.declared.limits.TheConstants.{LAST_MAIL}
+use Rattle.pc_message.specs.declared.limits.TheConstants.{LAST_MAIL}
 use Rattle.pc_office_holdings.specs.declared.users.Standing.{Standing}
 
 -- nothing is counted of a user

@@ -2,7 +2,7 @@
 use Rattle.std.specs.Prelude.{◌≡◌, ℕ, suc, ◌+◌, ◌<◌, ◌≤◌, Bool, true, not, ◌&&◌, ◌||◌, ◌==◌, nat_lt, nat_le, List, length, map, if◌then◌else◌}
 use Rattle.std.specs.List.{filter, list_all, AllByRecursion}
 use Rattle.std.specs.Map.{keys_of}
-use Rattle.pc_history.specs.Table.{is_among, total}
+use Rattle.pc_tables.specs.Table.{is_among, total}
 use Rattle.pc_office_history.specs.declared.limits.TheConstants.{MOST_WAITING_WEIGHT}
 use Rattle.pc_office_history.specs.declared.kept.Target.{Target}
 use Rattle.pc_office_history.specs.declared.kept.KeptMail.{KeptMail}

@@ -3,8 +3,8 @@
 ghost use Rattle.std.specs.Prelude.{◌≡◌, ◌≤◌, ◌&&◌, nat_le, length, map, List, ℕ, IfOk, MatchResult};
 ghost use Rattle.std.specs.List.{list_all};
 ghost use Rattle.pc_base.specs.Machine.{FaultAt};
-ghost use Rattle.pc_spelling.specs.Fields.{u64_kind, FieldReads};
-ghost use Rattle.pc_spelling.specs.Format.{Reads};
+ghost use Rattle.pc_fields.specs.Fields.{u64_kind, FieldReads};
+ghost use Rattle.pc_fields.specs.Format.{Reads};
 ghost use Rattle.pc_office_spelling.specs.RecordSpelling.{spelled_record};
 ghost use Rattle.pc_office_spelling.specs.RecordForm.{CanBeSaved, IsRecordFault};
 ghost use Rattle.pc_office_spelling.specs.RecordFormat.{record_format};
@@ -18,9 +18,9 @@ mod tables;
 use crate::loading::kept::read_kept;
 use crate::loading::tables::{read_addresses, read_boards, read_users};
 use pc_base::ReadFault;
-use pc_history::LAST_MAIL;
+use pc_fields::{Cursor, Halt, end};
+use pc_message::LAST_MAIL;
 use pc_office_holdings::{Holdings, Users};
-use pc_spelling::{Cursor, Halt, fault_at};
 use std::alloc::Global;
 
 /// Reads the record of what the office holds. `Malformed` names the first field at which no record
@@ -33,19 +33,7 @@ pub fn load(alloc: Global, bytes: &[u8]) -> Result<Holdings, ReadFault>
 {
     let mut cursor = Cursor::new(bytes);
     let read = read_record(alloc, &mut cursor);
-    let left = cursor.left().len();
-    match read {
-        Ok(holdings) => {
-            if left > 0 {
-                return Err(fault_at(bytes.len() - left));
-            }
-            Ok(holdings)
-        }
-        Err(halt) => match halt {
-            Halt::NoField => Err(fault_at(bytes.len() - left)),
-            Halt::Memory => Err(ReadFault::Memory),
-        },
-    }
+    end(read, bytes.len(), cursor.left().len())
 }
 
 /// What a record says of the office.

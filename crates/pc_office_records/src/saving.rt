@@ -2,7 +2,7 @@
 
 ghost use Rattle.std.specs.Prelude.{◌≡◌, ◌<◌, ◌++◌, map, length, OnOk};
 ghost use Rattle.std.specs.List.{concat, flat_map};
-ghost use Rattle.pc_spelling.specs.Spelling.{u16_field, short_list, long_list, message_fields};
+ghost use Rattle.pc_fields.specs.FieldBytes.{u16_field, short_list, long_list, message_fields};
 ghost use Rattle.pc_office_history.specs.declared.kept.KeptMail.{KeptMail};
 ghost use Rattle.pc_office_history.specs.Legal.{IsCanonical};
 ghost use Rattle.pc_office_spelling.specs.RecordSpelling.{user_fields, target_fields, address_fields, board_fields, kept_fields, spelled_record};
@@ -11,10 +11,10 @@ ghost use Rattle.pc_office_records.specs.Saving.{HaveFewMessages, HaveFewTargets
 
 use indexmap::IndexMap;
 use pc_base::{Bytes, Memory, Name};
+use pc_fields::{write_message, write_name, write_u16, write_u32, write_u64};
 use pc_message::Message;
 use pc_office_history::{KeptMail, Target};
 use pc_office_holdings::{Boards, Holdings, Messages, Users};
-use pc_spelling::{write_message, write_name, write_u16, write_u32, write_u64};
 
 /// Appends the record of what is held. After `Err` nothing is known of what was appended.
 pub fn save(holdings: &Holdings, out: &mut Bytes) -> Result<(), Memory>

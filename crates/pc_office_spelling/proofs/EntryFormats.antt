@@ -7,19 +7,19 @@ use Rattle.pc_base.specs.Line.{is_line}
 use Rattle.pc_message.specs.Message.{size_of}
 use Rattle.pc_office_history.specs.declared.entry.OfficeEntry.{OfficeEntry}
 use Rattle.pc_office_history.specs.declared.entry.OfficeEntry.TheVariants.{AddUser, AddBoard, TakeAddress, DropAddress, Accept, Pulled}
-use Rattle.pc_spelling.specs.Spelling.{u8_field, name_field, message_fields}
-use Rattle.pc_spelling.specs.EntryForm.{is_message}
-use Rattle.pc_spelling.specs.Format.{Format, ends, bind}
-use Rattle.pc_spelling.specs.EntryFormat.{message_format}
-use Rattle.pc_spelling.proofs.Formats.{ReadsAs, reads_bind, IsOpen}
-use Rattle.pc_spelling.proofs.Good.{Good, good_bind, good_open, good_reads}
-use Rattle.pc_spelling.proofs.GoodMessages.{IsReadMessage, good_message}
-use Rattle.pc_spelling.proofs.GoodTables.{is-within}
-use Rattle.pc_spelling.proofs.ReadsMessages.{reads_message}
+use Rattle.pc_fields.specs.FieldBytes.{u8_field, name_field, message_fields}
+use Rattle.pc_fields.specs.Fitting.{is_message}
+use Rattle.pc_fields.specs.Format.{Format, ends, bind}
+use Rattle.pc_fields.specs.MessageFormat.{message_format}
+use Rattle.pc_fields.proofs.Formats.{ReadsAs, reads_bind, ending}
+use Rattle.pc_fields.proofs.Good.{Good, good_bind}
+use Rattle.pc_fields.proofs.GoodMessage.{IsReadMessage, good_message}
+use Rattle.pc_fields.proofs.Pushes.{is-within}
+use Rattle.pc_fields.proofs.ReadsMessage.{reads_message}
 use Rattle.pc_office_spelling.specs.Spelling.{names_fields, parts_of, fields_of}
 use Rattle.pc_office_spelling.specs.EntryForm.{are_names, entry_fits}
 use Rattle.pc_office_spelling.specs.EntryFormat.{names_format, named_format, take_format, accept_format, pulled_format, entry_format}
-use Rattle.pc_office_spelling.proofs.Names.{ending, reads_names, AreReadNames, good_names}
+use Rattle.pc_office_spelling.proofs.Names.{reads_names, AreReadNames, good_names}
 
 -- ---- an entry that fits is read from its fields
 
@@ -55,9 +55,9 @@ entry_reads (Pulled user number) fits = (6, _, refl, refl, refl, pulled-reads us
 
 -- ---- what is read is an entry that fits, and at each field some entry goes on
 
-record IsReadEntry (fields : List (List ℕ)) (entry : OfficeEntry) : Type 0 where
-  fits : entry_fits entry ≡ true
-  spelled : fields ≡ fields_of entry
+pub record IsReadEntry (fields : List (List ℕ)) (entry : OfficeEntry) : Type 0 where
+  pub fits : entry_fits entry ≡ true
+  pub spelled : fields ≡ fields_of entry
 
 good-named : (make : List ℕ → OfficeEntry) (front : List (List ℕ)) → ((name : List ℕ) → is_name name ≡ true → IsReadEntry (front ++ name_field name ∷ []) (make name)) → Good IsReadEntry (named_format make) front
 good-named make front is = ((97 ∷ [], refl, refl), λ name fit passed. is name fit)
@@ -101,8 +101,8 @@ pick tag k F G low one other =
     pick-by (eqb tag k) F G (u8_field tag ∷ []) (λ is. subst (λ (n : ℕ). Good IsReadEntry F (u8_field n ∷ [])) (sym (eqb-true tag k is)) one)
     (λ not. let past : tag ≡ k → ⊥ = eqb-false tag k not in other (omega arith))
 
-good-entry : Good IsReadEntry entry_format []
-good-entry = (
+pub good_entry : Good IsReadEntry entry_format []
+good_entry = (
   (1, refl, refl),
   λ tag fit passed.
       let range = and_parts (nat_le 1 tag) (nat_le tag 6) passed in
@@ -115,11 +115,3 @@ good-entry = (
       pick tag 5 _ _ past4 good-accept (λ past5.
       subst (λ (n : ℕ). Good IsReadEntry pulled_format (u8_field n ∷ [])) (let last : 6 ≡ tag = omega arith in last) good-pulled))))),
 )
-
-pub reads_entry : (fields : List (List ℕ)) (entry : OfficeEntry) → ReadsAs entry_format fields entry → IsTrue (entry_fits entry) × (fields ≡ fields_of entry)
-reads_entry fields entry reads =
-    let is = good_reads IsReadEntry entry_format [] fields entry good-entry reads in
-    (is.fits, is.spelled)
-
-pub entry_open : IsOpen entry_format
-entry_open = good_open IsReadEntry entry_format [] good-entry

@@ -7,48 +7,27 @@ use Rattle.pc_base.specs.Line.{is_line}
 use Rattle.pc_message.specs.Message.{size_of}
 use Rattle.pc_office_history.specs.declared.entry.OfficeEntry.{OfficeEntry}
 use Rattle.pc_office_history.specs.declared.entry.OfficeEntry.TheVariants.{AddUser, AddBoard, TakeAddress, DropAddress, Accept, Pulled}
-use Rattle.pc_spelling.specs.Spelling.{u16_field, u32_field, u64_field, name_field, line_field, message_fields}
-use Rattle.pc_spelling.specs.EntryForm.{is_message}
-use Rattle.pc_spelling.proofs.Loops.{concat-append}
-use Rattle.pc_spelling.proofs.Formats.{Whole, one_value, no_fault, one_fault, same_faults}
-use Rattle.pc_spelling.proofs.RecordSize.{name-short}
+use Rattle.pc_fields.specs.FieldBytes.{u16_field, u32_field, u64_field, name_field, line_field, message_fields}
+use Rattle.pc_fields.specs.Fitting.{is_message}
+use Rattle.pc_fields.proofs.Loops.{concat-append}
+use Rattle.pc_fields.proofs.FieldLengths.{name-short, u16-long, u64-long, message-long}
 use Rattle.pc_office_spelling.specs.Spelling.{names_fields, parts_of, fields_of, spelled_entry}
 use Rattle.pc_office_spelling.specs.EntryForm.{are_names, entry_fits, IsEntry}
 use Rattle.pc_office_spelling.specs.EntryFormat.{entry_format}
 use Rattle.pc_office_spelling.specs.Laws.{OneEntry, EntryIsRead, OneEntryFault, most_bytes, EntryLength, EntryIsShort}
-use Rattle.pc_office_spelling.proofs.EntryFormats.{entry_reads}
-use Rattle.pc_office_spelling.proofs.EntryReads.{to_entry, from_entry}
+use Rattle.pc_fields.proofs.Spelled.{one-value, is-read, one-fault}
+use Rattle.pc_office_spelling.proofs.Spelled.{entries, entries-spelled}
 
 pub one-entry : OneEntry
-one-entry entry other fits fits_too e = one_value entry_format (fields_of entry) (fields_of other) entry other (entry_reads entry fits) (entry_reads other fits_too) e
+one-entry = one-value entries entries-spelled
 
 pub entry-is-read : EntryIsRead
-entry-is-read entry place fits fault = no_fault entry_format (fields_of entry) place (entry, entry_reads entry fits) (same_faults IsEntry (Whole entry_format) from_entry to_entry (spelled_entry entry) place fault)
+entry-is-read = is-read entries entries-spelled
 
 pub one-entry-fault : OneEntryFault
-one-entry-fault bytes place other fault second = one_fault entry_format bytes place other (same_faults IsEntry (Whole entry_format) from_entry to_entry bytes place fault) (same_faults IsEntry (Whole entry_format) from_entry to_entry bytes other second)
+one-entry-fault = one-fault entries entries-spelled
 
--- ---- how many bytes fields take
-
-pub u16-long : (n : ℕ) → length (u16_field n) ≡ 2
-unfolding u16_field
-u16-long n = refl
-
-pub u32-long : (n : ℕ) → length (u32_field n) ≡ 4
-unfolding u32_field
-u32-long n = refl
-
-pub u64-long : (n : ℕ) → length (u64_field n) ≡ 8
-unfolding u64_field
-u64-long n = refl
-
-lines-long : (lines : List (List ℕ)) → length (concat (map line_field lines)) ≡ size_of lines
-lines-long [] = refl
-lines-long (line ∷ lines) =
-    omega (arith, length-append (line_field line) (concat (map line_field lines)), length-append (u16_field (length line)) line, u16-long (length line), lines-long lines)
-
-pub message-long : (message : List (List ℕ)) → length (concat (message_fields message)) ≡ 4 + size_of message
-message-long message = omega (arith, length-append (u32_field (length message)) (concat (map line_field message)), u32-long (length message), lines-long message)
+-- ---- how many bytes entries take
 
 each-long : (names : List (List ℕ)) → IsTrue (list_all is_name names) → length (concat (map name_field names)) ≤ 33 * length names
 each-long [] are = omega arith

@@ -5,19 +5,18 @@ use Rattle.std.specs.Map.{keys_of}
 use Rattle.std.proofs.lemmas.Bool.{leb-true, leb-false, le-leb, ltb-true, lt-ltb, le-ltb, and_parts, and_from, not-true, or_parts}
 use Rattle.pc_base.specs.Name.{is_name}
 use Rattle.pc_message.specs.Message.{size_of, weight_of}
-use Rattle.pc_history.specs.Table.{same, is_among}
-use Rattle.pc_history.specs.Legal.{Ordered, AreDistinct}
-use Rattle.pc_history.proofs.Tables.{same-sym}
-use Rattle.pc_history.proofs.Uids.{Every-weaker, Every-append}
-use Rattle.pc_history.proofs.Formed.{Ordered-push}
-use Rattle.pc_history.proofs.Numbers.{list_all-among, list_all-weaker}
-use Rattle.pc_spelling.specs.Spelling.{u16_field, u64_field, name_field, message_fields}
-use Rattle.pc_spelling.specs.EntryForm.{is_message}
-use Rattle.pc_spelling.specs.Format.{ends, bind}
-use Rattle.pc_spelling.specs.RecordFormat.{is_new, message_within}
-use Rattle.pc_spelling.proofs.Good.{Good, good_bind}
-use Rattle.pc_spelling.proofs.GoodMessages.{IsReadMessage, good_message}
-use Rattle.pc_spelling.proofs.GoodTables.{all-push}
+use Rattle.pc_tables.specs.Table.{same, is_among}
+use Rattle.pc_tables.specs.Order.{Ordered, AreDistinct}
+use Rattle.pc_tables.proofs.Table.{same-sym, list_all-among}
+use Rattle.pc_tables.proofs.Lists.{Every-weaker, Every-append, list_all-weaker, all-push}
+use Rattle.pc_tables.proofs.Order.{Ordered-push}
+use Rattle.pc_fields.specs.FieldBytes.{u16_field, u64_field, name_field, message_fields}
+use Rattle.pc_fields.specs.Fitting.{is_message}
+use Rattle.pc_fields.specs.Format.{ends, bind}
+use Rattle.pc_fields.specs.Fields.{is_new}
+use Rattle.pc_fields.specs.MessageFormat.{message_within}
+use Rattle.pc_fields.proofs.Good.{Good, good_bind}
+use Rattle.pc_fields.proofs.GoodMessage.{IsReadMessage, good_message}
 use Rattle.pc_office_history.specs.declared.limits.TheConstants.{MOST_WAITING, MOST_WAITING_WEIGHT}
 use Rattle.pc_office_history.specs.declared.kept.Target.{Target}
 use Rattle.pc_office_history.specs.declared.kept.KeptMail.{KeptMail}
@@ -32,7 +31,8 @@ use Rattle.pc_office_spelling.specs.RecordFormat.{items_from, target_format, kep
 use Rattle.pc_office_spelling.proofs.Items.{AreItems, Next, good_items}
 use Rattle.pc_office_spelling.proofs.Spaces.{Enough, enough_from, follow_from, greatest-most, greatest-passes}
 use Rattle.pc_office_spelling.proofs.Waits.{Rising, AreFew, behind-long, behind-heavy, enough-least, enough-smaller, enough-behind}
-use Rattle.pc_office_spelling.proofs.OpenUsers.{free_one, open-distinct, open-all, open-below, open-some}
+use Rattle.pc_fields.proofs.NewNames.{free_one}
+use Rattle.pc_office_spelling.proofs.OpenUsers.{open-distinct, open-all, open-below, open-some}
 
 -- ---- targets
 

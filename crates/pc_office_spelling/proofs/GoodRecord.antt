@@ -3,12 +3,12 @@ use Rattle.std.proofs.Common.{◌≡◌, ℕ, ◌≤◌, ◌&&◌, ◌||◌, nat
 use Rattle.std.specs.List.{list_all, AllByRecursion as Every}
 use Rattle.std.specs.Map.{keys_of}
 use Rattle.std.proofs.lemmas.Bool.{leb-true, le-ltb, and_parts, and_from}
-use Rattle.pc_history.specs.declared.limits.TheConstants.{LAST_MAIL}
-use Rattle.pc_spelling.specs.Spelling.{u32_field, u64_field, short_list, long_list}
-use Rattle.pc_spelling.specs.Format.{Format, ends, goes, bind}
-use Rattle.pc_spelling.specs.Fields.{u64_kind}
-use Rattle.pc_spelling.proofs.Good.{Good, good_bind, good_weaker}
-use Rattle.pc_spelling.proofs.GoodTables.{length-keys}
+use Rattle.pc_message.specs.declared.limits.TheConstants.{LAST_MAIL}
+use Rattle.pc_tables.proofs.Table.{length-keys}
+use Rattle.pc_fields.specs.FieldBytes.{u32_field, u64_field, short_list, long_list}
+use Rattle.pc_fields.specs.Format.{Format, ends, goes, bind}
+use Rattle.pc_fields.specs.Fields.{u64_kind}
+use Rattle.pc_fields.proofs.Good.{Good, good_bind, good_weaker}
 use Rattle.pc_office_history.specs.declared.kept.Target.{Target}
 use Rattle.pc_office_history.specs.declared.kept.KeptMail.{KeptMail}
 use Rattle.pc_office_history.specs.Record.{OfficeRecord}

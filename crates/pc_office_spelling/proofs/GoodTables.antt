@@ -6,24 +6,26 @@ use Rattle.std.proofs.lemmas.Bool.{and_parts, and_from, not-true, or_parts}
 use Rattle.std.proofs.lemmas.List.Folds.{list_any-append}
 use Rattle.pc_base.specs.Name.{is_name}
 use Rattle.pc_message.specs.Message.{weight_of}
-use Rattle.pc_history.specs.Table.{same, is_among, total}
-use Rattle.pc_history.specs.Legal.{AreDistinct}
-use Rattle.pc_history.proofs.Tables.{same-refl}
-use Rattle.pc_history.proofs.Uids.{Every-append}
-use Rattle.pc_history.proofs.Numbers.{total-append}
-use Rattle.pc_spelling.specs.Spelling.{u16_field, u32_field, u64_field, name_field, message_fields, short_list, long_list}
-use Rattle.pc_spelling.specs.EntryForm.{is_message}
-use Rattle.pc_spelling.specs.Format.{ends}
-use Rattle.pc_spelling.specs.RecordFormat.{is_new, message_within}
-use Rattle.pc_spelling.proofs.Good.{Good, good_bind, good_weaker}
-use Rattle.pc_spelling.proofs.GoodMessages.{IsReadMessage, good_message}
-use Rattle.pc_spelling.proofs.GoodTables.{distinct-push, keys-push, length-keys, all-push, within-parts, is-within}
+use Rattle.pc_tables.specs.Table.{same, is_among, total}
+use Rattle.pc_tables.specs.Order.{AreDistinct}
+use Rattle.pc_tables.proofs.Table.{same-refl, keys-push, length-keys}
+use Rattle.pc_tables.proofs.Lists.{Every-append, all-push}
+use Rattle.pc_tables.proofs.Totals.{total-append}
+use Rattle.pc_tables.proofs.Distinct.{distinct-push}
+use Rattle.pc_fields.specs.FieldBytes.{u16_field, u32_field, u64_field, name_field, message_fields, short_list, long_list}
+use Rattle.pc_fields.specs.Fitting.{is_message}
+use Rattle.pc_fields.specs.Format.{ends}
+use Rattle.pc_fields.specs.Fields.{is_new}
+use Rattle.pc_fields.specs.MessageFormat.{message_within}
+use Rattle.pc_fields.proofs.Good.{Good, good_bind, good_weaker}
+use Rattle.pc_fields.proofs.GoodMessage.{IsReadMessage, good_message}
+use Rattle.pc_fields.proofs.Pushes.{within-parts, is-within}
 use Rattle.pc_office_history.specs.declared.kept.Target.{Target}
 use Rattle.pc_office_spelling.specs.RecordSpelling.{user_fields, target_fields, address_fields, board_fields}
 use Rattle.pc_office_spelling.specs.RecordForm.{user_fits, target_fits, address_fits, board_fits}
 use Rattle.pc_office_spelling.specs.RecordFormat.{items_from, user_format, users_format, address_format, most_addresses, addresses_format, message_format, weight_on, board_format, boards_format}
 use Rattle.pc_office_spelling.proofs.Items.{AreItems, Next, good_items, short-spelled, long-spelled}
-use Rattle.pc_office_spelling.proofs.NewNames.{new_name}
+use Rattle.pc_fields.proofs.NewNames.{new_name}
 
 keys-distinct : {X : Type 0} (table : List (List ℕ × X)) (name : List ℕ) (x : X) → AreDistinct (keys_of table) → is_new (keys_of table) name ≡ true → AreDistinct (keys_of (table ++ (name, x) ∷ []))
 keys-distinct table name x distinct new = subst AreDistinct (sym (keys-push table name x)) (distinct-push (keys_of table) name distinct new)

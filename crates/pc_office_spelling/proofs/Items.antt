@@ -2,10 +2,10 @@
 use Rattle.std.proofs.Common.{◌≡◌, ℕ, zero, suc, List, [], ◌∷◌, ◌++◌, length, refl, sym, ap, subst, ◌∙◌, append_assoc}
 use Rattle.std.specs.List.{flat_map}
 use Rattle.std.proofs.lemmas.List.{append-nil}
-use Rattle.pc_spelling.specs.Spelling.{u16_field, u32_field, short_list, long_list}
-use Rattle.pc_spelling.specs.Format.{Format}
-use Rattle.pc_spelling.proofs.Formats.{ReadsAs, reads_bind}
-use Rattle.pc_spelling.proofs.Good.{Good, good_bind, good_weaker}
+use Rattle.pc_fields.specs.FieldBytes.{u16_field, u32_field, short_list, long_list}
+use Rattle.pc_fields.specs.Format.{Format}
+use Rattle.pc_fields.proofs.Formats.{ReadsAs, reads_bind}
+use Rattle.pc_fields.proofs.Good.{Good, good_bind, good_weaker}
 use Rattle.pc_office_spelling.specs.RecordFormat.{items_from}
 
 -- so many items were read behind others, and at the end this holds

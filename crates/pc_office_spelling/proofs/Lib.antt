@@ -1,6 +1,5 @@
 pub mod EntryFormats
 pub mod EntryLaws
-pub mod EntryReads
 pub mod Names
 pub mod Items
 pub mod Spaces
@@ -8,11 +7,11 @@ pub mod Waits
 pub mod OpenUsers
 pub mod GoodKept
 pub mod ReadsKept
-pub mod NewNames
 pub mod GoodTables
 pub mod ReadsTables
 pub mod Limits
 pub mod ReadsRecord
 pub mod GoodRecord
 pub mod RecordSize
+pub mod Spelled
 pub mod RecordLaws

@@ -4,18 +4,14 @@ use Rattle.std.specs.List.{list_all}
 use Rattle.std.proofs.lemmas.Bool.{and_from, and_parts, ltb-true}
 use Rattle.std.proofs.lemmas.List.{append-nil}
 use Rattle.pc_base.specs.Name.{is_name}
-use Rattle.pc_spelling.specs.Spelling.{u16_field, name_field}
-use Rattle.pc_spelling.specs.Format.{Format, ends, bind, repeated}
-use Rattle.pc_spelling.proofs.Formats.{ReadsAs, reads_bind}
-use Rattle.pc_spelling.proofs.Good.{Good, good_bind, good_weaker}
-use Rattle.pc_spelling.proofs.GoodTables.{is-within}
+use Rattle.pc_fields.specs.FieldBytes.{u16_field, name_field}
+use Rattle.pc_fields.specs.Format.{Format, ends, bind, repeated}
+use Rattle.pc_fields.proofs.Formats.{ReadsAs, ending}
+use Rattle.pc_fields.proofs.Good.{Good, good_bind, good_weaker}
+use Rattle.pc_fields.proofs.Pushes.{is-within}
 use Rattle.pc_office_spelling.specs.Spelling.{names_fields}
 use Rattle.pc_office_spelling.specs.EntryForm.{are_names}
 use Rattle.pc_office_spelling.specs.EntryFormat.{name_format, names_format}
-
--- what is made of one thing is read where the thing is
-pub ending : {X Y : Type 0} (format : Format X) (fields : List (List ℕ)) (x : X) (make : X → Y) → ReadsAs format fields x → ReadsAs (bind format (λ v. ends (make v))) fields (make x)
-ending format fields x make reads = subst (λ (f : List (List ℕ)). ReadsAs (bind format (λ v. ends (make v))) f (make x)) (append-nil fields) (reads_bind format (λ v. ends (make v)) fields [] x (make x) reads (refl, refl))
 
 pub reads_each : (names : List (List ℕ)) → list_all is_name names ≡ true → ReadsAs (repeated (length names) name_format) (map name_field names) names
 reads_each [] are = (refl, refl)

@@ -3,75 +3,14 @@ use Rattle.std.proofs.Common.{◌≡◌, ℕ, suc, ◌+◌, ◌<◌, ◌≤◌, 
 use Rattle.std.specs.List.{list_all, AllByRecursion as Every}
 use Rattle.std.specs.Map.{lookup, keys_of}
 use Rattle.std.proofs.lemmas.Bool.{ltb-true, ltb-false, lt-ltb, and_parts, and_from}
-use Rattle.pc_history.specs.Table.{same, is_among, other_names}
-use Rattle.pc_history.specs.Legal.{AreDistinct}
-use Rattle.pc_history.proofs.Tables.{same-true, same-refl, same-sym}
-use Rattle.pc_history.proofs.Numbers.{total-among, length-ones, length-filter-le}
-use Rattle.pc_spelling.proofs.GoodTables.{length-keys}
+use Rattle.pc_tables.specs.Table.{same, is_among, other_names}
+use Rattle.pc_tables.specs.Order.{AreDistinct}
+use Rattle.pc_tables.proofs.Table.{same-true, same-refl, same-sym, length-keys}
+use Rattle.pc_tables.proofs.Totals.{total-among, length-ones}
+use Rattle.pc_tables.proofs.Lists.{length-filter-le}
 use Rattle.pc_office_spelling.specs.Spaces.{space_upto, open_users}
 use Rattle.pc_office_spelling.proofs.Waits.{IsBelow}
-
-pub or-second : (a b : Bool) → b ≡ true → (a || b) ≡ true
-or-second true b h = refl
-or-second false b h = h
-
--- ---- names among others
-
-others-fewer : (name : List ℕ) (names : List (List ℕ)) → is_among name names ≡ true → suc (length (other_names name names)) ≤ length names
-others-fewer name names among =
-    let sum = total-among (λ _. 1) name names among in
-    let long = length-ones (other_names name names) in
-    let all = length-ones names in
-    omega (arith, sum, long, all)
-
-among-others : (name asked : List ℕ) (names : List (List ℕ)) → same name asked ≡ false → is_among asked (other_names name names) ≡ is_among asked names
-among-others name asked [] differs = refl
-among-others name asked (other ∷ names) differs =
-    elim (same name other) as (λ b. same name other ≡ b → is_among asked (cond (not b) (other ∷ other_names name names) (other_names name names)) ≡ (same asked other || is_among asked names)) [
-      | true ↦ λ e.
-          let is = same-true name other e in
-          let not-here : same asked other ≡ false = ap (same asked) (sym is) ∙ same-sym asked name ∙ differs in
-          among-others name asked names differs ∙ ap (λ (b : Bool). b || is_among asked names) (sym not-here)
-      | false ↦ λ e. ap (λ (b : Bool). same asked other || b) (among-others name asked names differs)
-    ] refl
-
-pub differs-among : (name asked : List ℕ) (names : List (List ℕ)) → Every (λ (later : List ℕ). same name later ≡ false) names → is_among asked names ≡ true → same name asked ≡ false
-differs-among name asked [] differs among = absurd (true≢false (sym among))
-differs-among name asked (other ∷ names) differs among =
-    elim (same asked other) as (λ b. same asked other ≡ b → (b || is_among asked names) ≡ true → same name asked ≡ false) [
-      | true ↦ λ e _. ap (same name) (same-true asked other e) ∙ differs.0
-      | false ↦ λ e rest. differs-among name asked names differs.1 rest
-    ] refl among
-
--- one of these names that is none of those
-pub record FreeOne (names taken : List (List ℕ)) : Type 0 where
-  pub name : List ℕ
-  pub among : is_among name names ≡ true
-  pub free : is_among name taken ≡ false
-
-pub free_one : (names taken : List (List ℕ)) → AreDistinct names → length taken < length names → FreeOne names taken
-free_one [] taken distinct few = absurd (omega (arith, few))
-free_one (name ∷ names) taken distinct few =
-    elim (is_among name taken) as (λ b. is_among name taken ≡ b → FreeOne (name ∷ names) taken) [
-      | false ↦ λ e. record { name = name; among = ap (λ (b : Bool). b || is_among name names) (same-refl name); free = e }
-      | true ↦ λ e.
-          let fewer = others-fewer name taken e in
-          let rest = free_one names (other_names name taken) distinct.1 (omega (arith, few, fewer)) in
-          let differs = differs-among name rest.name names distinct.0 rest.among in
-          record { name = rest.name; among = or-second (same rest.name name) (is_among rest.name names) rest.among; free = sym (among-others name rest.name taken differs) ∙ rest.free }
-    ] refl
-
--- distinct names that are all among others are no more
-pub among-count : (these names : List (List ℕ)) → AreDistinct these → Every (λ (name : List ℕ). is_among name names ≡ true) these → length these ≤ length names
-among-count [] names distinct among = omega arith
-among-count (name ∷ these) names distinct among =
-    let fewer = others-fewer name names among.0 in
-    let rest = among-count these (other_names name names) distinct.1 (moved these distinct.0 among.1) in
-    omega (arith, fewer, rest)
-  where
-    moved : (some : List (List ℕ)) → Every (λ (later : List ℕ). same name later ≡ false) some → Every (λ (other : List ℕ). is_among other names ≡ true) some → Every (λ (other : List ℕ). is_among other (other_names name names) ≡ true) some
-    moved [] differs all = tt
-    moved (other ∷ some) differs all = (among-others name other names differs.0 ∙ all.0, moved some differs.1 all.1)
+use Rattle.pc_fields.proofs.NewNames.{or-second, differs-among}
 
 -- ---- the users for whom a mail of a number may wait
 

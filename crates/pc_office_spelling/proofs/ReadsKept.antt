@@ -7,17 +7,18 @@ use Rattle.pc_base.specs.Name.{is_name}
 use Rattle.pc_base.specs.Line.{is_line}
 use Rattle.pc_message.specs.declared.lists.Mail.{Mail}
 use Rattle.pc_message.specs.Message.{size_of, weight_of}
-use Rattle.pc_history.specs.Table.{same, is_among}
-use Rattle.pc_history.specs.Legal.{Ordered, AreDistinct}
-use Rattle.pc_history.proofs.Tables.{same-true, same-refl, same-sym}
-use Rattle.pc_history.proofs.Uids.{Every-weaker, Every-append}
-use Rattle.pc_history.proofs.Numbers.{total-append}
-use Rattle.pc_spelling.specs.Spelling.{message_fields}
-use Rattle.pc_spelling.specs.EntryForm.{is_message}
-use Rattle.pc_spelling.specs.Format.{ends, bind}
-use Rattle.pc_spelling.specs.RecordFormat.{is_new, message_within}
-use Rattle.pc_spelling.proofs.Formats.{ReadsAs, reads_bind}
-use Rattle.pc_spelling.proofs.ReadsMessages.{reads_message}
+use Rattle.pc_tables.specs.Table.{same, is_among}
+use Rattle.pc_tables.specs.Order.{Ordered, AreDistinct}
+use Rattle.pc_tables.proofs.Table.{same-true, same-refl, same-sym}
+use Rattle.pc_tables.proofs.Lists.{Every-weaker, Every-append}
+use Rattle.pc_tables.proofs.Totals.{total-append}
+use Rattle.pc_fields.specs.FieldBytes.{message_fields}
+use Rattle.pc_fields.specs.Fitting.{is_message}
+use Rattle.pc_fields.specs.Format.{ends, bind}
+use Rattle.pc_fields.specs.Fields.{is_new}
+use Rattle.pc_fields.specs.MessageFormat.{message_within}
+use Rattle.pc_fields.proofs.Formats.{ReadsAs, reads_bind, ending}
+use Rattle.pc_fields.proofs.ReadsMessage.{reads_message}
 use Rattle.pc_office_history.specs.declared.limits.TheConstants.{MOST_WAITING, MOST_WAITING_WEIGHT}
 use Rattle.pc_office_history.specs.declared.kept.Target.{Target}
 use Rattle.pc_office_history.specs.declared.kept.KeptMail.{KeptMail}
@@ -30,11 +31,11 @@ use Rattle.pc_office_spelling.specs.RecordSpelling.{target_fields, kept_fields}
 use Rattle.pc_office_spelling.specs.RecordForm.{target_fits, kept_fits}
 use Rattle.pc_office_spelling.specs.Spaces.{space_of, users_of, space_after, can_follow, open_users, may_wait, greatest}
 use Rattle.pc_office_spelling.specs.RecordFormat.{items_from, target_format, kept_format}
-use Rattle.pc_office_spelling.proofs.Names.{ending}
 use Rattle.pc_office_spelling.proofs.Items.{reads_items}
 use Rattle.pc_office_spelling.proofs.Spaces.{follow_from, greatest-least}
 use Rattle.pc_office_spelling.proofs.Waits.{Rising, is_for, IsBelow, AreFew, front-long, behind-heavy, space-for, rising-room, enough-rest, enough-many, enough-before}
-use Rattle.pc_office_spelling.proofs.OpenUsers.{or-second, among-count, open-few, below-open}
+use Rattle.pc_fields.proofs.NewNames.{or-second, among-count}
+use Rattle.pc_office_spelling.proofs.OpenUsers.{open-few, below-open}
 use Rattle.pc_office_spelling.proofs.GoodKept.{users-long, among-targets, below-all}
 
 -- ---- targets

@@ -3,11 +3,11 @@ use Rattle.std.proofs.Common.{◌≡◌, ℕ, ◌≤◌, ◌&&◌, nat_lt, nat_l
 use Rattle.std.specs.List.{list_all, list_any}
 use Rattle.std.specs.Map.{keys_of}
 use Rattle.std.proofs.lemmas.Bool.{ltb-false, lt-ltb, le-leb, or_parts, and_parts, and_from}
-use Rattle.pc_history.specs.declared.limits.TheConstants.{LAST_MAIL}
-use Rattle.pc_history.proofs.Uids.{Every-weaker}
-use Rattle.pc_spelling.specs.Spelling.{u64_field, short_list, long_list}
-use Rattle.pc_spelling.proofs.Formats.{ReadsAs, reads_bind}
-use Rattle.pc_spelling.proofs.GoodTables.{length-keys}
+use Rattle.pc_message.specs.declared.limits.TheConstants.{LAST_MAIL}
+use Rattle.pc_tables.proofs.Lists.{Every-weaker}
+use Rattle.pc_tables.proofs.Table.{length-keys}
+use Rattle.pc_fields.specs.FieldBytes.{u64_field, short_list, long_list}
+use Rattle.pc_fields.proofs.Formats.{ReadsAs, reads_bind, ending}
 use Rattle.pc_office_history.specs.declared.limits.TheConstants.{MOST_BOARD_MESSAGES, MOST_BOARD_WEIGHT}
 use Rattle.pc_office_history.specs.Record.{OfficeRecord, mails_for}
 use Rattle.pc_office_history.specs.Known.{said_by}
@@ -18,7 +18,6 @@ use Rattle.pc_office_spelling.specs.RecordSpelling.{user_fields, address_fields,
 use Rattle.pc_office_spelling.specs.RecordForm.{user_fits, address_fits, board_fits, kept_fits, CanBeSaved}
 use Rattle.pc_office_spelling.specs.Spaces.{space_of}
 use Rattle.pc_office_spelling.specs.RecordFormat.{users_format, addresses_format, boards_format, kept_list_format, record_format}
-use Rattle.pc_office_spelling.proofs.Names.{ending}
 use Rattle.pc_office_spelling.proofs.Spaces.{follow_from}
 use Rattle.pc_office_spelling.proofs.Waits.{AreFew, enough-rest}
 use Rattle.pc_office_spelling.proofs.Limits.{few-each, short-each, distinct-first, distinct-second, distinct-apart, apart-both, each-noted}

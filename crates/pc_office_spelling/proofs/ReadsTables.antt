@@ -7,20 +7,19 @@ use Rattle.std.proofs.lemmas.List.Folds.{list_any-append}
 use Rattle.pc_base.specs.Name.{is_name}
 use Rattle.pc_base.specs.Line.{is_line}
 use Rattle.pc_message.specs.Message.{size_of, weight_of}
-use Rattle.pc_history.specs.Table.{same, is_among, total}
-use Rattle.pc_history.specs.Legal.{AreDistinct}
-use Rattle.pc_history.proofs.Tables.{same-sym}
-use Rattle.pc_history.proofs.Numbers.{total-append}
-use Rattle.pc_spelling.specs.Spelling.{message_fields, short_list}
-use Rattle.pc_spelling.specs.EntryForm.{is_message}
-use Rattle.pc_spelling.proofs.Formats.{ReadsAs}
-use Rattle.pc_spelling.proofs.GoodTables.{is-within}
-use Rattle.pc_spelling.proofs.ReadsMessages.{reads_message}
+use Rattle.pc_tables.specs.Table.{same, is_among, total}
+use Rattle.pc_tables.specs.Order.{AreDistinct}
+use Rattle.pc_tables.proofs.Table.{same-sym}
+use Rattle.pc_tables.proofs.Totals.{total-append}
+use Rattle.pc_fields.specs.FieldBytes.{message_fields, short_list}
+use Rattle.pc_fields.specs.Fitting.{is_message}
+use Rattle.pc_fields.proofs.Formats.{ReadsAs, ending}
+use Rattle.pc_fields.proofs.Pushes.{is-within}
+use Rattle.pc_fields.proofs.ReadsMessage.{reads_message}
 use Rattle.pc_office_history.specs.declared.kept.Target.{Target}
 use Rattle.pc_office_spelling.specs.RecordSpelling.{user_fields, address_fields, board_fields}
 use Rattle.pc_office_spelling.specs.RecordForm.{user_fits, target_fits, address_fits, board_fits}
 use Rattle.pc_office_spelling.specs.RecordFormat.{items_from, user_format, users_format, address_format, most_addresses, addresses_format, message_format, weight_on, board_format, boards_format}
-use Rattle.pc_office_spelling.proofs.Names.{ending}
 use Rattle.pc_office_spelling.proofs.Items.{reads_items}
 
 -- ---- names that are new

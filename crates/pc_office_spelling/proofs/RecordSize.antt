@@ -4,11 +4,11 @@ use Rattle.std.specs.List.{list_all, flat_map, concat}
 use Rattle.std.proofs.lemmas.Bool.{ltb-false, and_parts}
 use Rattle.pc_base.specs.Name.{is_name}
 use Rattle.pc_message.specs.Message.{weight_of}
-use Rattle.pc_history.specs.Table.{total}
-use Rattle.pc_spelling.specs.Spelling.{u16_field, u32_field, u64_field, name_field, message_fields, short_list, long_list}
-use Rattle.pc_spelling.specs.EntryForm.{is_message}
-use Rattle.pc_spelling.proofs.Loops.{concat-append}
-use Rattle.pc_spelling.proofs.RecordSize.{name-short}
+use Rattle.pc_tables.specs.Table.{total}
+use Rattle.pc_fields.specs.FieldBytes.{u16_field, u32_field, u64_field, name_field, message_fields, short_list, long_list}
+use Rattle.pc_fields.specs.Fitting.{is_message}
+use Rattle.pc_fields.proofs.Loops.{concat-append}
+use Rattle.pc_fields.proofs.FieldLengths.{name-short, u16-long, u32-long, u64-long, message-long, bytes, bytes-more, bytes-both, bytes-name}
 use Rattle.pc_office_history.specs.declared.limits.TheConstants.{MOST_BOARD_WEIGHT}
 use Rattle.pc_office_history.specs.declared.kept.Target.{Target}
 use Rattle.pc_office_history.specs.declared.kept.KeptMail.{KeptMail}
@@ -20,25 +20,8 @@ use Rattle.pc_office_history.proofs.Names.{read-off}
 use Rattle.pc_office_spelling.specs.RecordSpelling.{user_fields, target_fields, address_fields, board_fields, kept_fields, spelled_record}
 use Rattle.pc_office_spelling.specs.RecordForm.{user_fits, target_fits, address_fits, board_fits, kept_fits, CanBeSaved}
 use Rattle.pc_office_spelling.specs.RecordFormat.{weight_on}
-use Rattle.pc_office_spelling.proofs.EntryLaws.{u16-long, u32-long, u64-long, message-long}
 use Rattle.pc_office_spelling.proofs.Limits.{Boards}
 use Rattle.pc_office_spelling.proofs.ReadsRecord.{few-users, few-boards, few-addresses, board-parts, fits-parts}
-
--- how many bytes fields take
-abbrev bytes : List (List ℕ) → ℕ
-bytes fields = length (concat fields)
-
-bytes-more : (field : List ℕ) (fields : List (List ℕ)) → bytes (field ∷ fields) ≡ length field + bytes fields
-bytes-more field fields = length-append field (concat fields)
-
-bytes-both : (xs ys : List (List ℕ)) → bytes (xs ++ ys) ≡ bytes xs + bytes ys
-bytes-both xs ys = ap length (concat-append xs ys) ∙ length-append (concat xs) (concat ys)
-
-bytes-name : (name : List ℕ) (fields : List (List ℕ)) → is_name name ≡ true → bytes (name_field name ∷ fields) ≤ 33 + bytes fields
-bytes-name name fields is =
-    let more = bytes-more (name_field name) fields in
-    let short = name-short name is in
-    omega (arith, more, short)
 
 users-long : (users : List (List ℕ × ℕ)) → list_all user_fits users ≡ true → bytes (flat_map user_fields users) ≤ 41 * length users
 users-long [] fit = omega arith

@@ -3,10 +3,10 @@ use Rattle.std.proofs.Common.{◌≡◌, ℕ, zero, suc, ◌+◌, ◌-◌, ◌<�
 use Rattle.std.specs.List.{list_all, list_any, AllByRecursion as Every}
 use Rattle.std.specs.Map.{lookup, keys_of}
 use Rattle.std.proofs.lemmas.Bool.{leb-true, le-leb, leb-false, ltb-true, lt-ltb, ltb-false, eqb-true, eqb-false, or_parts, and_parts, and_from}
-use Rattle.pc_history.specs.Table.{same}
-use Rattle.pc_history.specs.Legal.{AreDistinct}
-use Rattle.pc_history.proofs.Tables.{same-true, same-sym}
-use Rattle.pc_history.proofs.Uids.{Every-from}
+use Rattle.pc_tables.specs.Table.{same}
+use Rattle.pc_tables.specs.Order.{AreDistinct}
+use Rattle.pc_tables.proofs.Table.{same-true, same-sym}
+use Rattle.pc_tables.proofs.Lists.{Every-from}
 use Rattle.pc_office_spelling.specs.Spaces.{space_upto, can_follow, greatest}
 
 -- one of two tests passes

@@ -5,11 +5,11 @@ use Rattle.std.specs.Map.{lookup, keys_of}
 use Rattle.std.proofs.lemmas.Bool.{leb-true, leb-false}
 use Rattle.pc_message.specs.declared.lists.Mail.{Mail}
 use Rattle.pc_message.specs.Message.{size_of, weight_of}
-use Rattle.pc_history.specs.Table.{same, is_among}
-use Rattle.pc_history.specs.Legal.{Ordered, AreDistinct}
-use Rattle.pc_history.proofs.Tables.{same-refl}
-use Rattle.pc_history.proofs.Uids.{Every-from}
-use Rattle.pc_history.proofs.Numbers.{total-append}
+use Rattle.pc_tables.specs.Table.{same, is_among}
+use Rattle.pc_tables.specs.Order.{Ordered, AreDistinct}
+use Rattle.pc_tables.proofs.Table.{same-refl}
+use Rattle.pc_tables.proofs.Lists.{Every-from}
+use Rattle.pc_tables.proofs.Totals.{total-append}
 use Rattle.pc_office_history.specs.declared.limits.TheConstants.{MOST_WAITING, MOST_WAITING_WEIGHT}
 use Rattle.pc_office_history.specs.declared.kept.Target.{Target}
 use Rattle.pc_office_history.specs.declared.kept.KeptMail.{KeptMail}

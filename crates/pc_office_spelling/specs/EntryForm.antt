@@ -2,8 +2,8 @@
 use Rattle.std.specs.Prelude.{◌≡◌, ℕ, Bool, IsTrue, ◌&&◌, nat_lt, List, length}
 use Rattle.std.specs.List.{list_all}
 use Rattle.pc_base.specs.Name.{is_name}
-use Rattle.pc_spelling.specs.EntryForm.{is_message}
-use Rattle.pc_spelling.specs.Fault.{IsFirstFault}
+use Rattle.pc_fields.specs.Fitting.{is_message}
+use Rattle.pc_fields.specs.Fault.{IsFirstFault}
 use Rattle.pc_office_history.specs.declared.entry.OfficeEntry.{OfficeEntry}
 use Rattle.pc_office_history.specs.declared.entry.OfficeEntry.TheVariants.{AddUser, AddBoard, TakeAddress, DropAddress, Accept, Pulled}
 use Rattle.pc_office_spelling.specs.Spelling.{fields_of}

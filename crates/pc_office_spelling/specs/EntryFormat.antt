@@ -1,8 +1,8 @@
 -- Entries as they are read.
 use Rattle.std.specs.Prelude.{ℕ, ◌==◌, List, if◌then◌else◌}
-use Rattle.pc_spelling.specs.Fields.{u8_kind, u16_kind, u64_kind, within}
-use Rattle.pc_spelling.specs.Format.{Format, ends, goes, bind, repeated}
-use Rattle.pc_spelling.specs.EntryFormat.{a_name, message_format}
+use Rattle.pc_fields.specs.Fields.{u8_kind, u16_kind, u64_kind, within}
+use Rattle.pc_fields.specs.Format.{Format, ends, goes, bind, repeated, a_name}
+use Rattle.pc_fields.specs.MessageFormat.{message_format}
 use Rattle.pc_office_history.specs.declared.entry.OfficeEntry.{OfficeEntry}
 use Rattle.pc_office_history.specs.declared.entry.OfficeEntry.TheVariants.{AddUser, AddBoard, TakeAddress, DropAddress, Accept, Pulled}
 

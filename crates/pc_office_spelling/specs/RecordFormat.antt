@@ -3,11 +3,11 @@ use Rattle.std.specs.Prelude.{ℕ, zero, suc, ◌+◌, ◌-◌, ◌*◌, ◌/◌
 use Rattle.std.specs.List.{list_all}
 use Rattle.std.specs.Map.{keys_of}
 use Rattle.pc_message.specs.Message.{weight_of}
-use Rattle.pc_history.specs.declared.limits.TheConstants.{LAST_MAIL}
-use Rattle.pc_history.specs.Table.{is_among, total}
-use Rattle.pc_spelling.specs.Fields.{name_kind, u16_kind, u32_kind, u64_kind, any, within}
-use Rattle.pc_spelling.specs.Format.{Format, ends, goes, bind}
-use Rattle.pc_spelling.specs.RecordFormat.{is_new, message_within}
+use Rattle.pc_message.specs.declared.limits.TheConstants.{LAST_MAIL}
+use Rattle.pc_tables.specs.Table.{is_among, total}
+use Rattle.pc_fields.specs.Fields.{name_kind, u16_kind, u32_kind, u64_kind, any, within, is_new}
+use Rattle.pc_fields.specs.Format.{Format, ends, goes, bind}
+use Rattle.pc_fields.specs.MessageFormat.{message_within}
 use Rattle.pc_office_history.specs.declared.limits.TheConstants.{MOST_USERS, MOST_BOARDS, MOST_ADDRESSES, MOST_BOARD_MESSAGES, MOST_BOARD_WEIGHT}
 use Rattle.pc_office_history.specs.declared.kept.Target.{Target}
 use Rattle.pc_office_history.specs.declared.kept.KeptMail.{KeptMail}

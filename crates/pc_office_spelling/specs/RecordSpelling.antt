@@ -1,7 +1,7 @@
 -- How a store writes the record of the office.
 use Rattle.std.specs.Prelude.{ℕ, List, [], ◌∷◌, ◌++◌}
 use Rattle.std.specs.List.{concat}
-use Rattle.pc_spelling.specs.Spelling.{u64_field, name_field, message_fields, short_list, long_list}
+use Rattle.pc_fields.specs.FieldBytes.{u64_field, name_field, message_fields, short_list, long_list}
 use Rattle.pc_office_history.specs.declared.kept.Target.{Target}
 use Rattle.pc_office_history.specs.declared.kept.KeptMail.{KeptMail}
 use Rattle.pc_office_history.specs.Record.{OfficeRecord}

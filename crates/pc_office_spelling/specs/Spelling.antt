@@ -1,7 +1,7 @@
 -- How a store writes the entries of the office: field by field, one after the other.
 use Rattle.std.specs.Prelude.{ℕ, List, [], ◌∷◌, ◌++◌, length, map}
 use Rattle.std.specs.List.{concat}
-use Rattle.pc_spelling.specs.Spelling.{u8_field, u16_field, u64_field, name_field, message_fields}
+use Rattle.pc_fields.specs.FieldBytes.{u8_field, u16_field, u64_field, name_field, message_fields}
 use Rattle.pc_office_history.specs.declared.entry.OfficeEntry.{OfficeEntry}
 use Rattle.pc_office_history.specs.declared.entry.OfficeEntry.TheVariants.{AddUser, AddBoard, TakeAddress, DropAddress, Accept, Pulled}
 use Rattle.pc_office_history.specs.Entry.{tag_of}

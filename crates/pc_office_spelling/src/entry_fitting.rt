@@ -1,16 +1,14 @@
 //! Whether entries fit their fields.
 
 ghost use Rattle.std.specs.Prelude.{◌≡◌, IsTrue, None};
-ghost use Rattle.std.specs.List.{list_all};
 ghost use Rattle.pc_base.specs.Name.{is_name};
-ghost use Rattle.pc_base.specs.Line.{is_line};
-ghost use Rattle.pc_spelling.specs.EntryForm.{is_message};
 ghost use Rattle.pc_office_history.specs.declared.entry.OfficeEntry.TheVariants as entry;
 ghost use Rattle.pc_office_history.specs.Known.{Known};
 ghost use Rattle.pc_office_history.specs.Limits.{limit_passed};
 ghost use Rattle.pc_office_spelling.specs.EntryForm.{entry_fits};
 
-use pc_base::{Line, Name, Names};
+use pc_base::{Name, Names};
+use pc_fields::{fits_message, fits_name, fits_names};
 use pc_message::Message;
 use pc_office_history::OfficeEntry;
 
@@ -34,14 +32,6 @@ pub fn fits(entry: &OfficeEntry) -> bool
     }
 }
 
-/// Its length fits one byte.
-fn fits_name(name: &Name) -> bool
-    ensures name { result ≡ is_name name.now }
-    ensures always { IsTrue result }
-{
-    name.bytes().len() <= 255
-}
-
 fn fits_take(address: &Name, user: &Name, mailbox: &Name) -> bool
     ensures entry { result ≡ entry_fits (entry.TakeAddress address.now user.now mailbox.now) }
     ensures always { IsTrue result }
@@ -54,36 +44,7 @@ fn fits_accept(names: &Names, message: &Message) -> bool
     ensures within { (known : Known) → limit_passed known (entry.Accept names.now message.now) ≡ None → IsTrue result }
 {
     let names = names.as_slice();
-    names.len() < 65_536 && fits_each(names) && fits_message(message)
-}
-
-fn fits_each(names: &[Name]) -> bool
-    ensures names { result ≡ list_all is_name names.now }
-    ensures always { IsTrue result }
-{
-    names.iter().all(fits_name)
-}
-
-/// Its size is one that a message may have, and so are the lengths of its lines.
-fn fits_message(message: &Message) -> bool
-    ensures message { result ≡ is_message message.now }
-    ensures always { IsTrue result }
-{
-    message.size() <= 65_536 && fits_lines(message)
-}
-
-fn fits_lines(message: &Message) -> bool
-    ensures lines { result ≡ list_all is_line message.now }
-    ensures always { IsTrue result }
-{
-    message.lines().as_slice().iter().all(fits_line)
-}
-
-fn fits_line(line: &Line) -> bool
-    ensures line { result ≡ is_line line.now }
-    ensures always { IsTrue result }
-{
-    line.bytes().len() <= 1000
+    names.len() < 65_536 && fits_names(names) && fits_message(message)
 }
 
 fn fits_pulled(user: &Name, number: u64) -> bool

@@ -2,15 +2,14 @@
 
 ghost use Rattle.std.specs.Prelude.{◌≡◌, ◌≤◌, length, IfOk, IsTrue};
 ghost use Rattle.pc_base.specs.Machine.{FaultAt};
-ghost use Rattle.pc_spelling.specs.Format.{repeated, Reads};
+ghost use Rattle.pc_fields.specs.Format.{repeated, Reads};
 ghost use Rattle.pc_office_spelling.specs.Spelling.{spelled_entry};
 ghost use Rattle.pc_office_spelling.specs.EntryForm.{entry_fits, IsEntryFault};
 ghost use Rattle.pc_office_spelling.specs.EntryFormat.{name_format, names_format, take_format, accept_format, pulled_format, parts_format, entry_format};
 
-use crate::message_reading::read_message;
 use pc_base::{Names, ReadFault};
+use pc_fields::{Cursor, Halt, end, read_message};
 use pc_office_history::OfficeEntry;
-use pc_spelling::{Cursor, Halt, fault_at};
 use std::alloc::Global;
 
 /// Reads an entry. `Malformed` names the first field at which no entry goes on.
@@ -21,19 +20,7 @@ pub fn read_entry(alloc: Global, bytes: &[u8]) -> Result<OfficeEntry, ReadFault>
 {
     let mut cursor = Cursor::new(bytes);
     let read = read_whole(alloc, &mut cursor);
-    let left = cursor.left().len();
-    match read {
-        Ok(entry) => {
-            if left > 0 {
-                return Err(fault_at(bytes.len() - left));
-            }
-            Ok(entry)
-        }
-        Err(halt) => match halt {
-            Halt::NoField => Err(fault_at(bytes.len() - left)),
-            Halt::Memory => Err(ReadFault::Memory),
-        },
-    }
+    end(read, bytes.len(), cursor.left().len())
 }
 
 fn read_whole(alloc: Global, cursor: &mut Cursor) -> Result<OfficeEntry, Halt>

@@ -2,29 +2,23 @@
 
 ghost use Rattle.std.specs.Prelude.{◌≡◌, ◌++◌, map, IsTrue, OnOk};
 ghost use Rattle.std.specs.List.{concat};
-ghost use Rattle.pc_spelling.specs.Spelling.{u8_field, name_field};
+ghost use Rattle.pc_fields.specs.FieldBytes.{name_field};
 ghost use Rattle.pc_office_history.specs.declared.entry.OfficeEntry.TheVariants as entry;
 ghost use Rattle.pc_office_spelling.specs.Spelling.{parts_of, names_fields, spelled_entry};
 ghost use Rattle.pc_office_spelling.specs.EntryForm.{are_names, entry_fits};
 
 use pc_base::{Bytes, Memory, Name, Names};
+use pc_fields::{write_message, write_name, write_u8, write_u16, write_u64};
 use pc_message::Message;
 use pc_office_history::OfficeEntry;
-use pc_spelling::{write_message, write_name, write_u16, write_u64};
 
 /// Appends the bytes of an entry. After `Err` nothing is known of what was appended.
 pub fn write_entry(entry: &OfficeEntry, out: &mut Bytes) -> Result<(), Memory>
     requires { IsTrue (entry_fits entry.now) }
     ensures { OnOk result (out.new ≡ out.old ++ spelled_entry entry.now) }
 {
-    write_tag(out, entry.tag())?;
+    write_u8(out, entry.tag())?;
     write_parts(entry, out)
-}
-
-fn write_tag(out: &mut Bytes, tag: u8) -> Result<(), Memory>
-    ensures { OnOk result (out.new ≡ out.old ++ u8_field tag) }
-{
-    out.append(&[tag])
 }
 
 /// Appends what stands behind the tag.

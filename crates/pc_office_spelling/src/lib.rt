@@ -5,7 +5,6 @@ mod entry_fitting;
 mod entry_reading;
 mod entry_writing;
 pub mod laws;
-mod message_reading;
 pub mod record_laws;
 pub mod samples;
 #[cfg(test)]
@@ -14,4 +13,3 @@ mod tests;
 pub use entry_fitting::fits;
 pub use entry_reading::read_entry;
 pub use entry_writing::write_entry;
-pub use message_reading::read_message;

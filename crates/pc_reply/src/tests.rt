@@ -1,14 +1,25 @@
-//! Tests of what no clause says.
+//! Tests of what no clause says. A test is a list of calls of small functions that assert: an
+//! assertion is proved where it stands, a call of one costs little.
 
 use crate::{
     Head, ItemFault, Mode, Reply, ReplyFeed, ReplyNext, client_line, counted_line, name_line,
     push_change, read_changes, read_mailboxes,
 };
-use pc_base::{LimitWord, Line, Lines, MemorySink, Name, Recipient, Refusal};
+use pc_base::{LimitWord, Line, Lines, MemorySink, Name, Names, Recipient, Refusal};
 use pc_message::{Change, Descriptor};
 use std::alloc::Global;
 use std::process::Abort;
 use std::test::Fail;
+
+/// These bytes were wanted.
+fn same(rt: &impl Abort, found: &[u8], wanted: &[u8]) {
+    assert_eq!(rt; found, wanted);
+}
+
+/// This was wanted.
+fn holds(rt: &impl Abort, what: &str, is: bool) {
+    assert!(rt; is, "{what}");
+}
 
 /// The lines of the texts.
 fn lines_of(alloc: Global, texts: &[&[u8]]) -> Result<Lines, Fail> {
@@ -29,6 +40,10 @@ fn are_lines(lines: &Lines, texts: &[&[u8]]) -> bool {
             .all(|(line, text)| line.bytes() == *text)
 }
 
+fn lines_are(rt: &impl Abort, lines: &Lines, texts: &[&[u8]]) {
+    assert!(rt; are_lines(lines, texts), "{texts:?}");
+}
+
 /// What a feed tells after the bytes: the first answer other than `More`, or `More` at their end.
 fn told(feed: &mut ReplyFeed, bytes: &[u8]) -> Result<(ReplyNext, usize), Fail> {
     let mut taken = 0;
@@ -43,20 +58,21 @@ fn told(feed: &mut ReplyFeed, bytes: &[u8]) -> Result<(ReplyNext, usize), Fail> 
     Ok((ReplyNext::More, taken))
 }
 
-/// The reply that a feed tells after the bytes, which come in two pieces, with what is taken of the second.
+/// The reply that a feed tells after the bytes, which come in two pieces, with what is taken of them.
 fn read_cut(alloc: Global, bytes: &[u8], cut: usize) -> Result<(Reply, usize), Fail> {
+    let (Some(front), Some(back)) = (bytes.get(..cut), bytes.get(cut..)) else {
+        return Err(Fail::from("no such cut"));
+    };
     let mut feed = ReplyFeed::new(alloc);
-    let front = bytes.get(..cut).ok_or("no such cut")?;
-    let back = bytes.get(cut..).ok_or("no such cut")?;
     let (next, taken) = told(&mut feed, front)?;
     if let ReplyNext::Whole(reply) = next {
         return Ok((reply, taken));
     }
     let (next, more) = told(&mut feed, back)?;
-    if let ReplyNext::Whole(reply) = next {
-        return Ok((reply, taken.saturating_add(more)));
+    match next {
+        ReplyNext::Whole(reply) => Ok((reply, taken.saturating_add(more))),
+        _ => Err(Fail::from("no reply")),
     }
-    Err(Fail::from("no reply"))
 }
 
 /// The place of the line that a feed refuses.
@@ -72,24 +88,35 @@ fn bad_place(alloc: Global, bytes: &[u8]) -> Result<Option<u64>, Fail> {
     }
 }
 
+/// A reply that is read has this head and no lines, and takes all bytes.
+fn is_head(
+    rt: &impl Abort,
+    alloc: Global,
+    written: &[u8],
+    cut: usize,
+    text: &[u8],
+) -> Result<(), Fail> {
+    let (reply, taken) = read_cut(alloc, written, cut)?;
+    same(rt, reply.head.text().bytes(), text);
+    holds(rt, "all is taken", taken == written.len());
+    holds(rt, "no lines", reply.lines.as_slice().is_empty());
+    Ok(())
+}
+
 fn check_head(rt: &impl Abort, alloc: Global, head: Head, text: &[u8]) -> Result<(), Fail> {
-    assert_eq!(rt; head.text().bytes(), text);
-    let lines = Lines::new(alloc);
+    same(rt, head.text().bytes(), text);
     let end: &[u8] = if head.has_list() {
         b"\r\n.\r\n"
     } else {
         b"\r\n"
     };
     let mut sink = MemorySink::new(alloc).in_pieces(7);
+    let lines = Lines::new(alloc);
     Reply { head, lines }.write(&mut sink)?;
     let written = sink.bytes();
-    assert!(rt; written.starts_with(text));
-    assert_eq!(rt; written.get(text.len()..), Some(end));
+    same(rt, written.strip_prefix(text).unwrap_or(b""), end);
     for cut in 0..written.len() {
-        let (reply, taken) = read_cut(alloc, written, cut)?;
-        assert_eq!(rt; reply.head.text().bytes(), text);
-        assert_eq!(rt; taken, written.len());
-        assert!(rt; reply.lines.as_slice().is_empty());
+        is_head(rt, alloc, written, cut, text)?;
     }
     Ok(())
 }
@@ -186,116 +213,142 @@ fn heads_of_refusals(rt: HostRuntime) -> Result<(), Fail> {
     Ok(())
 }
 
+fn is_no_head(rt: &impl Abort, line: &[u8]) {
+    assert!(rt; Head::read(line).is_none(), "{line:?}");
+}
+
 #[test]
-fn lines_that_are_no_heads(rt: HostRuntime) -> Result<(), Fail> {
-    for line in [
-        b"".as_slice(),
-        b"200 ok",
-        b"200 Ok ",
-        b" 200 Ok",
-        b"200",
-        b"0200 Ok",
-        b"205 Birth 03",
-        b"205 Birth ",
-        b"205 Birth 18446744073709551616",
-        b"206 Number 1 made 3",
-        b"407 Superseded by session 00",
-        b"407 Superseded by session 18446744073709551616",
-        b"416 Unknown recipient ",
-        b"416 Unknown recipient a b",
-        b"418 Limit reached uid",
-        b"424 Client exists",
-        b"502 Change 18446744073709551616 is missing",
-        b"502 Change 1 is missing.",
-        b"502 Change  is missing",
-        b"502 Change ",
-    ] {
-        assert!(rt; Head::read(line).is_none());
-    }
+fn lines_that_are_no_heads(rt: HostRuntime) {
+    is_no_head(&rt, b"");
+    is_no_head(&rt, b"200 ok");
+    is_no_head(&rt, b"200 Ok ");
+    is_no_head(&rt, b" 200 Ok");
+    is_no_head(&rt, b"200");
+    is_no_head(&rt, b"0200 Ok");
+    is_no_head(&rt, b"205 Birth 03");
+    is_no_head(&rt, b"205 Birth ");
+    is_no_head(&rt, b"205 Birth 18446744073709551616");
+    is_no_head(&rt, b"206 Number 1 made 3");
+    is_no_head(&rt, b"407 Superseded by session 00");
+    is_no_head(&rt, b"407 Superseded by session 18446744073709551616");
+    is_no_head(&rt, b"416 Unknown recipient ");
+    is_no_head(&rt, b"416 Unknown recipient a b");
+    is_no_head(&rt, b"418 Limit reached uid");
+    is_no_head(&rt, b"424 Client exists");
+    is_no_head(&rt, b"502 Change 18446744073709551616 is missing");
+    is_no_head(&rt, b"502 Change 1 is missing.");
+    is_no_head(&rt, b"502 Change  is missing");
+    is_no_head(&rt, b"502 Change ");
+}
+
+/// A list, and the reply behind it.
+static FOLLOWED: &[u8] =
+    b"202 Message follows\r\n..\r\n...\r\n..x\r\n\r\na\r\r\n \r\n.\r\n200 Ok\r\n";
+
+/// The lines of the list.
+static LISTED: [&[u8]; 6] = [b".", b"..", b".x", b"", b"a\r", b" "];
+
+#[test]
+fn lists_are_written(rt: HostRuntime) -> Result<(), Fail> {
+    let reply = Reply {
+        head: Head::MessageFollows,
+        lines: lines_of(rt.alloc(), &LISTED)?,
+    };
+    let mut sink = MemorySink::new(rt.alloc());
+    reply.write(&mut sink)?;
+    let wanted = FOLLOWED.strip_suffix(b"200 Ok\r\n");
+    same(&rt, sink.bytes(), wanted.unwrap_or(b""));
+    Ok(())
+}
+
+/// The list is read where it comes in two pieces, and nothing behind it is taken.
+fn is_list(rt: &impl Abort, alloc: Global, cut: usize) -> Result<(), Fail> {
+    let (reply, taken) = read_cut(alloc, FOLLOWED, cut)?;
+    same(rt, FOLLOWED.get(taken..).unwrap_or(b""), b"200 Ok\r\n");
+    same(rt, reply.head.text().bytes(), b"202 Message follows");
+    lines_are(rt, &reply.lines, &LISTED);
     Ok(())
 }
 
 #[test]
 fn lists_are_read_in_every_cutting(rt: HostRuntime) -> Result<(), Fail> {
-    let alloc = rt.alloc();
-    let texts: [&[u8]; 6] = [b".", b"..", b".x", b"", b"a\r", b" "];
-    let reply = Reply {
-        head: Head::MessageFollows,
-        lines: lines_of(alloc, &texts)?,
-    };
-    let mut sink = MemorySink::new(alloc);
-    reply.write(&mut sink)?;
-    let written: &[u8] = b"202 Message follows\r\n..\r\n...\r\n..x\r\n\r\na\r\r\n \r\n.\r\n";
-    assert_eq!(rt; sink.bytes(), written);
-    let mut followed = Vec::from_slice(alloc, written)?;
-    followed.extend_from_slice(b"200 Ok\r\n")?;
-    for cut in 0..written.len() {
-        let (again, taken) = read_cut(alloc, &followed, cut)?;
-        assert_eq!(rt; taken, written.len());
-        assert_eq!(rt;
-            again.head.text().bytes(),
-            b"202 Message follows".as_slice()
-        );
-        assert!(rt; are_lines(&again.lines, &texts));
+    for cut in 0..FOLLOWED.len() - 8 {
+        is_list(&rt, rt.alloc(), cut)?;
     }
+    Ok(())
+}
+
+/// The place of the line that is refused.
+fn bad_at(rt: &impl Abort, alloc: Global, bytes: &[u8], place: Option<u64>) -> Result<(), Fail> {
+    let found = bad_place(alloc, bytes)?;
+    assert_eq!(rt; found, place);
     Ok(())
 }
 
 #[test]
 fn places_of_lines_that_fit_none(rt: HostRuntime) -> Result<(), Fail> {
     let alloc = rt.alloc();
-    assert_eq!(rt; bad_place(alloc, b"200 Okay\r\n")?, Some(0));
-    assert_eq!(rt; bad_place(alloc, b"200 Okay")?, None);
-    let long = vec![in alloc; b'x'; 513]?;
-    assert_eq!(rt; bad_place(alloc, &long)?, Some(0));
-    let mut listed = Vec::from_slice(alloc, b"201 List follows\ny\r\n")?;
-    let line = vec![in alloc; b'x'; 1001]?;
-    listed.extend_from_slice(&line)?;
-    assert_eq!(rt; bad_place(alloc, &listed)?, Some(20));
+    bad_at(&rt, alloc, b"200 Okay\r\n", Some(0))?;
+    bad_at(&rt, alloc, b"200 Okay", None)?;
+    bad_at(&rt, alloc, &[b'x'; 513], Some(0))?;
+    let mut listed = [b'x'; 1021];
+    listed[..20].copy_from_slice(b"201 List follows\ny\r\n");
+    bad_at(&rt, alloc, &listed, Some(20))?;
+    Ok(())
+}
+
+/// The feed waits for more behind the bytes.
+fn goes_on(rt: &impl Abort, feed: &mut ReplyFeed, bytes: &[u8]) -> Result<(), Fail> {
+    let (next, _) = told(feed, bytes)?;
+    holds(rt, "more", matches!(next, ReplyNext::More));
+    Ok(())
+}
+
+/// The feed refuses the line at this place, which the bytes end.
+fn refuses(rt: &impl Abort, feed: &mut ReplyFeed, bytes: &[u8], at: u64) -> Result<(), Fail> {
+    let (next, _) = told(feed, bytes)?;
+    holds(
+        rt,
+        "refused",
+        matches!(next, ReplyNext::Bad { place } if place == at),
+    );
     Ok(())
 }
 
 #[test]
 fn lists_have_at_most_32768_lines(rt: HostRuntime) -> Result<(), Fail> {
-    let alloc = rt.alloc();
-    let mut feed = ReplyFeed::new(alloc);
-    let (next, _) = told(&mut feed, b"201 List follows\r\n")?;
-    assert!(rt; matches!(next, ReplyNext::More));
+    let mut feed = ReplyFeed::new(rt.alloc());
+    goes_on(&rt, &mut feed, b"201 List follows\r\n")?;
     for _ in 0..32_768u32 {
-        let (next, _) = told(&mut feed, b"x\r\n")?;
-        assert!(rt; matches!(next, ReplyNext::More));
+        goes_on(&rt, &mut feed, b"x\r\n")?;
     }
-    let (next, _) = told(&mut feed, b"x\r\n")?;
-    assert!(rt; matches!(next, ReplyNext::Bad { place: 98_322 }));
-    Ok(())
+    refuses(&rt, &mut feed, b"x\r\n", 98_322)
 }
 
 #[test]
 fn lists_have_at_most_4194304_bytes(rt: HostRuntime) -> Result<(), Fail> {
-    let alloc = rt.alloc();
-    let mut feed = ReplyFeed::new(alloc);
-    let _ = told(&mut feed, b"201 List follows\r\n")?;
-    let mut line = vec![in alloc; b'x'; 998]?;
-    line.extend_from_slice(b"\r\n")?;
+    let mut line = [b'x'; 1000];
+    line[998..].copy_from_slice(b"\r\n");
+    let mut feed = ReplyFeed::new(rt.alloc());
+    goes_on(&rt, &mut feed, b"201 List follows\r\n")?;
     for _ in 0..4194u32 {
-        let (next, _) = told(&mut feed, &line)?;
-        assert!(rt; matches!(next, ReplyNext::More));
+        goes_on(&rt, &mut feed, &line)?;
     }
-    let (next, _) = told(&mut feed, &line)?;
-    assert!(rt; matches!(next, ReplyNext::Bad { place: 4_194_018 }));
-    Ok(())
+    refuses(&rt, &mut feed, &line, 4_194_018)
 }
 
-/// Whether the lines are refused at this line, or read where it's `None`.
-fn is_fault_of_changes(alloc: Global, texts: &[&[u8]], fault: Option<usize>) -> Result<bool, Fail> {
-    let wanted = fault.map(|line| ItemFault::Bad { line });
-    Ok(read_changes(alloc, &lines_of(alloc, texts)?).err() == wanted)
-}
+/// Six lines of two changes.
+static CHANGES: [&[u8]; 6] = [
+    b"4294967295 EXPUNGED",
+    b"1 1000000000000001 24 6",
+    b"",
+    b"ann",
+    b"bob",
+    b"one",
+];
 
-#[test]
-fn changes_are_written_and_read(rt: HostRuntime) -> Result<(), Fail> {
-    let alloc = rt.alloc();
-    let descriptor = Descriptor {
+fn descriptor(alloc: Global) -> Result<Descriptor, Fail> {
+    Ok(Descriptor {
         uid: 1,
         flags: 0x8001,
         bytes: 24,
@@ -304,25 +357,42 @@ fn changes_are_written_and_read(rt: HostRuntime) -> Result<(), Fail> {
         from: Line::copy_of(alloc, b"ann")?,
         to: Line::copy_of(alloc, b"bob")?,
         subject: Line::copy_of(alloc, b"one")?,
-    };
+    })
+}
+
+/// The changes are written as the six lines.
+fn are_written(rt: &impl Abort, alloc: Global, changes: &[Change]) -> Result<(), Fail> {
     let mut lines = Lines::new(alloc);
-    push_change(alloc, &mut lines, &Change::Expunged(4_294_967_295))?;
-    push_change(alloc, &mut lines, &Change::Present(descriptor))?;
-    let texts: [&[u8]; 6] = [
-        b"4294967295 EXPUNGED",
-        b"1 1000000000000001 24 6",
-        b"",
-        b"ann",
-        b"bob",
-        b"one",
-    ];
-    assert!(rt; are_lines(&lines, &texts));
-    let changes = read_changes(alloc, &lines)?;
-    let mut again = Lines::new(alloc);
-    for change in changes.as_slice() {
-        push_change(alloc, &mut again, change)?;
+    for change in changes {
+        push_change(alloc, &mut lines, change)?;
     }
-    assert!(rt; are_lines(&again, &texts));
+    lines_are(rt, &lines, &CHANGES);
+    Ok(())
+}
+
+#[test]
+fn changes_are_written(rt: HostRuntime) -> Result<(), Fail> {
+    let gone = Change::Expunged(4_294_967_295);
+    let there = Change::Present(descriptor(rt.alloc())?);
+    are_written(&rt, rt.alloc(), &[gone, there])
+}
+
+#[test]
+fn changes_are_read(rt: HostRuntime) -> Result<(), Fail> {
+    let changes = read_changes(rt.alloc(), &lines_of(rt.alloc(), &CHANGES)?)?;
+    are_written(&rt, rt.alloc(), changes.as_slice())
+}
+
+/// The lines are refused at this line, or read where it's `None`.
+fn faulty_at(
+    rt: &impl Abort,
+    alloc: Global,
+    texts: &[&[u8]],
+    fault: Option<usize>,
+) -> Result<(), Fail> {
+    let wanted = fault.map(|line| ItemFault::Bad { line });
+    let found = read_changes(alloc, &lines_of(alloc, texts)?).err();
+    assert!(rt; found == wanted, "{texts:?}");
     Ok(())
 }
 
@@ -336,87 +406,94 @@ static LONG: [u8; 129] = [b'x'; 129];
 #[test]
 fn faults_of_texts(rt: HostRuntime) -> Result<(), Fail> {
     let alloc = rt.alloc();
-    assert!(rt; is_fault_of_changes(alloc, &[], None)?);
-    assert!(rt; is_fault_of_changes(alloc, &[FIRST, b"", b"", &SHORT, b""], None)?);
-    assert!(rt; is_fault_of_changes(alloc, &[FIRST, b"", b"", &LONG, b""], Some(3))?);
-    assert!(rt; is_fault_of_changes(alloc, &[FIRST, b"", b"", b""], Some(4))?);
-    assert!(rt; is_fault_of_changes(alloc, &[FIRST], Some(1))?);
-    assert!(rt; is_fault_of_changes(alloc, &[b"1 EXPUNGED", FIRST], Some(1))?);
-    assert!(rt;
-        is_fault_of_changes(
-            alloc,
-            &[b"1 EXPUNGED", b"2 EXPUNGED", b"1 EXPUNGED"],
-            Some(2)
-        )?
-    );
-    Ok(())
+    faulty_at(&rt, alloc, &[], None)?;
+    faulty_at(&rt, alloc, &[FIRST, b"", b"", &SHORT, b""], None)?;
+    faulty_at(&rt, alloc, &[FIRST, b"", b"", &LONG, b""], Some(3))?;
+    faulty_at(&rt, alloc, &[FIRST, b"", b"", b""], Some(4))?;
+    faulty_at(&rt, alloc, &[FIRST], Some(1))?;
+    faulty_at(&rt, alloc, &[b"1 EXPUNGED", FIRST], Some(1))?;
+    faulty_at(
+        &rt,
+        alloc,
+        &[b"1 EXPUNGED", b"2 EXPUNGED", b"1 EXPUNGED"],
+        Some(2),
+    )
 }
 
 #[test]
 fn faults_of_first_lines(rt: HostRuntime) -> Result<(), Fail> {
-    for line in [
-        b"01 EXPUNGED".as_slice(),
-        b"1 expunged",
-        b"1  EXPUNGED",
-        b"4294967296 EXPUNGED",
-        b"1 000000000000000 24 6",
-        b"1 000000000000000x 24 6",
-        b"1 0000000000000000 024 6",
-        b"1 0000000000000000 24",
-        b"",
-    ] {
-        assert!(rt; is_fault_of_changes(rt.alloc(), &[line], Some(0))?);
-    }
+    let alloc = rt.alloc();
+    faulty_at(&rt, alloc, &[b"01 EXPUNGED"], Some(0))?;
+    faulty_at(&rt, alloc, &[b"1 expunged"], Some(0))?;
+    faulty_at(&rt, alloc, &[b"1  EXPUNGED"], Some(0))?;
+    faulty_at(&rt, alloc, &[b"4294967296 EXPUNGED"], Some(0))?;
+    faulty_at(&rt, alloc, &[b"1 000000000000000 24 6"], Some(0))?;
+    faulty_at(&rt, alloc, &[b"1 000000000000000x 24 6"], Some(0))?;
+    faulty_at(&rt, alloc, &[b"1 0000000000000000 024 6"], Some(0))?;
+    faulty_at(&rt, alloc, &[b"1 0000000000000000 24"], Some(0))?;
+    faulty_at(&rt, alloc, &[b""], Some(0))
+}
+
+fn name(bytes: &[u8]) -> Result<Name, Fail> {
+    Ok(Name::read(bytes).ok_or("a name")?)
+}
+
+#[test]
+fn mailboxes_are_written(rt: HostRuntime) -> Result<(), Fail> {
+    let alloc = rt.alloc();
+    let inbox = counted_line(alloc, &name(b"inbox")?, 0, 0)?;
+    same(&rt, inbox.bytes(), b"inbox 0 0");
+    let work = counted_line(alloc, &name(b"work")?, 0, 0)?;
+    same(&rt, work.bytes(), b"work 0 0");
     Ok(())
+}
+
+fn mailboxes_of(alloc: Global, texts: &[&[u8]]) -> Result<Names, Fail> {
+    Ok(read_mailboxes(alloc, &lines_of(alloc, texts)?)?)
 }
 
 #[test]
 fn mailboxes_are_read(rt: HostRuntime) -> Result<(), Fail> {
-    let alloc = rt.alloc();
-    let inbox = Name::read(b"inbox").ok_or("a name")?;
-    let work = Name::read(b"work").ok_or("a name")?;
-    let mut lines = Lines::new(alloc);
-    lines.push(counted_line(alloc, &inbox, 0, 0)?)?;
-    lines.push(counted_line(alloc, &work, 0, 0)?)?;
-    assert!(rt; are_lines(&lines, &[b"inbox 0 0", b"work 0 0"]));
-    let names = read_mailboxes(alloc, &lines)?;
-    assert_eq!(rt; names.as_slice().len(), 2);
-    assert!(rt; names.as_slice()[0] == inbox);
-    assert!(rt; names.as_slice()[1] == work);
-    let largest = lines_of(alloc, &[b"work 4294967295 4294967295"])?;
-    assert_eq!(rt; read_mailboxes(alloc, &largest)?.as_slice().len(), 1);
-    let rows: [(&[&[u8]], usize); 6] = [
-        (&[b"inbox 0 0", b"work 0 0", b"inbox 1 1"], 2),
-        (&[b"inbox 00 0"], 0),
-        (&[b"inbox 0"], 0),
-        (&[b"inbox 0 0 "], 0),
-        (&[b"inbox 0 4294967296"], 0),
-        (&[b"inbox 0 0", b"Work 0 0"], 1),
-    ];
-    for (texts, line) in rows {
-        let read = read_mailboxes(alloc, &lines_of(alloc, texts)?);
-        assert_eq!(rt; read.err(), Some(ItemFault::Bad { line }));
-    }
+    let names = mailboxes_of(rt.alloc(), &[b"inbox 0 0", b"work 0 0"])?;
+    let [first, second] = names.as_slice() else {
+        return Err(Fail::from("two names"));
+    };
+    same(&rt, first.bytes(), b"inbox");
+    same(&rt, second.bytes(), b"work");
+    let largest = mailboxes_of(rt.alloc(), &[b"work 4294967295 4294967295"])?;
+    holds(&rt, "one name", largest.as_slice().len() == 1);
     Ok(())
+}
+
+/// The lines are refused at this line.
+fn no_mailbox(rt: &impl Abort, alloc: Global, texts: &[&[u8]], line: usize) -> Result<(), Fail> {
+    let found = read_mailboxes(alloc, &lines_of(alloc, texts)?).err();
+    assert!(rt; found == Some(ItemFault::Bad { line }), "{texts:?}");
+    Ok(())
+}
+
+#[test]
+fn lines_that_are_no_mailboxes(rt: HostRuntime) -> Result<(), Fail> {
+    let alloc = rt.alloc();
+    no_mailbox(&rt, alloc, &[b"inbox 0 0", b"work 0 0", b"inbox 1 1"], 2)?;
+    no_mailbox(&rt, alloc, &[b"inbox 00 0"], 0)?;
+    no_mailbox(&rt, alloc, &[b"inbox 0"], 0)?;
+    no_mailbox(&rt, alloc, &[b"inbox 0 0 "], 0)?;
+    no_mailbox(&rt, alloc, &[b"inbox 0 4294967296"], 0)?;
+    no_mailbox(&rt, alloc, &[b"inbox 0 0", b"Work 0 0"], 1)
 }
 
 #[test]
 fn other_lines(rt: HostRuntime) -> Result<(), Fail> {
     let alloc = rt.alloc();
-    let name = Name::read(b"ws1").ok_or("a name")?;
-    assert_eq!(rt;
-        client_line(alloc, &name, 3, Mode::Away)?.bytes(),
-        b"ws1 3 away".as_slice()
-    );
-    assert_eq!(rt;
-        client_line(alloc, &name, u64::MAX, Mode::Interactive)?.bytes(),
-        b"ws1 18446744073709551615 interactive".as_slice()
-    );
-    assert_eq!(rt;
-        client_line(alloc, &name, 3, Mode::Batch)?.bytes(),
-        b"ws1 3 batch".as_slice()
-    );
-    assert_eq!(rt; name_line(alloc, &name)?.bytes(), b"ws1".as_slice());
+    let name = name(b"ws1")?;
+    let away = client_line(alloc, &name, 3, Mode::Away)?;
+    same(&rt, away.bytes(), b"ws1 3 away");
+    let batch = client_line(alloc, &name, 3, Mode::Batch)?;
+    same(&rt, batch.bytes(), b"ws1 3 batch");
+    let last = client_line(alloc, &name, u64::MAX, Mode::Interactive)?;
+    same(&rt, last.bytes(), b"ws1 18446744073709551615 interactive");
+    same(&rt, name_line(alloc, &name)?.bytes(), b"ws1");
     Ok(())
 }
 
@@ -428,7 +505,7 @@ fn a_sink_that_fails_has_a_front(rt: HostRuntime) -> Result<(), Fail> {
         lines: lines_of(alloc, &[b"a"])?,
     };
     let mut sink = MemorySink::new(alloc).in_pieces(4).failing_at(3);
-    assert!(rt; reply.write(&mut sink).is_err());
-    assert_eq!(rt; sink.bytes(), b"201 List".as_slice());
+    holds(&rt, "it fails", reply.write(&mut sink).is_err());
+    same(&rt, sink.bytes(), b"201 List");
     Ok(())
 }

@@ -20,12 +20,12 @@ kind_of (argument.mailbox bytes) = kind.box
 kind_of (argument.board bytes) = kind.box
 
 -- what is selected by a word
-abbrev box_of : List ℕ → Argument
+abbrev pub box_of : List ℕ → Argument
 box_of [] = argument.mailbox []
 box_of (first ∷ others) = cond (first == 43) (argument.board others) (argument.mailbox (first ∷ others))
 
 -- the only argument of a kind that a word can spell
-pub argument_of : Kind → List ℕ → Argument
+unfoldable pub argument_of : Kind → List ℕ → Argument
 argument_of kind.name word = argument.name word
 argument_of kind.password word = argument.password word
 argument_of kind.number word = argument.number (decimal_value word)

@@ -41,12 +41,12 @@ abbrev behind : List Argument → List Argument
 behind [] = []
 behind (first ∷ others) = others
 
-abbrev selected : Argument → Request
+abbrev pub selected : Argument → Request
 selected (argument.board bytes) = request.SelectBoard bytes
 selected which = request.SelectMailbox (bytes_in which)
 
 -- the only request of an operation that has these arguments
-request_of : Operation → List Argument → Request
+unfoldable pub request_of : Operation → List Argument → Request
 request_of operation.SendVersion arguments = request.SendVersion (value_in (first_of arguments))
 request_of operation.Help arguments = request.Help
 request_of operation.Login arguments = request.Login (bytes_in (first_of arguments)) (bytes_in (first_of (behind arguments))) (bytes_in (first_of (behind (behind arguments)))) (choice_in (first_of (behind (behind (behind arguments))))) (choice_in (first_of (behind (behind (behind (behind arguments))))))

@@ -22,6 +22,11 @@ pub fn requests_have_no_fault()
     ensures { (request : Request) (line : List ℕ) → IsRequest request line → fault_of line ≡ None }
 {}
 
+/// A line that has no fault is a request.
+pub fn faultless_lines_are_requests()
+    ensures { (line : List ℕ) → fault_of line ≡ None → ((request : Request) × IsRequest request line) }
+{}
+
 /// What is read can be written.
 pub fn requests_are_writable()
     ensures { (request : Request) (line : List ℕ) → IsRequest request line → IsWritable request }

@@ -1,11 +1,30 @@
-//! Tests of what no clause says.
+//! Tests of what no clause says. A test is a list of calls of small functions that assert: an
+//! assertion is proved where it stands, a call of one costs little.
 
 use crate::{Operation, Request, RequestFault};
 use pc_base::MemorySink;
+use std::alloc::Global;
+use std::process::Abort;
 use std::test::Fail;
 
+/// These bytes were wanted.
+fn same(rt: &impl Abort, found: &[u8], wanted: &[u8]) {
+    assert_eq!(rt; found, wanted);
+}
+
+/// This was wanted.
+fn holds(rt: &impl Abort, what: &str, is: bool) {
+    assert!(rt; is, "{what}");
+}
+
+/// The line is no request, by this fault, or is one where it's `None`.
+fn faulty(rt: &impl Abort, line: &[u8], fault: Option<RequestFault>) {
+    let found = Request::read(line).err();
+    assert!(rt; found == fault, "{line:?}");
+}
+
 /// A line of each operation as it is written, and one with other letters, spaces and zeros that is the same request.
-const LINES: [(&[u8], &[u8]); 32] = [
+static LINES: [(&[u8], &[u8]); 32] = [
     (b"SEND-VERSION 1", b"Send-Version 0001"),
     (b"HELP", b"  help "),
     (b"LOGIN ann sesame ws1 0 1", b"login  ann sesame ws1 00 01"),
@@ -49,30 +68,43 @@ const LINES: [(&[u8], &[u8]); 32] = [
     (b"SEND-MESSAGE", b"send-message"),
 ];
 
-#[test]
-fn each_is_read_and_written(rt: HostRuntime) -> Result<(), Fail> {
-    for (written, other) in LINES {
-        let request = Request::read(other)?;
-        assert_eq!(rt; request.line().bytes(), written);
-        let again = Request::read(written)?;
-        let mut sink = MemorySink::new(rt.alloc()).in_pieces(3);
-        again.write(&mut sink)?;
-        let (front, end) = sink.bytes().split_at(sink.bytes().len().saturating_sub(2));
-        assert_eq!(rt; front, written);
-        assert_eq!(rt; end, b"\r\n".as_slice());
-    }
+/// The line is read, and its request is written as this line and CR LF.
+fn is_written(rt: &impl Abort, alloc: Global, line: &[u8], written: &[u8]) -> Result<(), Fail> {
+    let request = Request::read(line)?;
+    same(rt, request.line().bytes(), written);
+    let mut sink = MemorySink::new(alloc).in_pieces(3);
+    request.write(&mut sink)?;
+    same(
+        rt,
+        sink.bytes().strip_suffix(b"\r\n").unwrap_or(b""),
+        written,
+    );
     Ok(())
 }
 
 #[test]
+fn each_is_read_and_written(rt: HostRuntime) -> Result<(), Fail> {
+    for (written, other) in &LINES {
+        is_written(&rt, rt.alloc(), written, written)?;
+        is_written(&rt, rt.alloc(), other, written)?;
+    }
+    Ok(())
+}
+
+/// The line with one argument more.
+fn longer(alloc: Global, line: &[u8]) -> Result<Vec<u8>, Fail> {
+    let mut longer = Vec::from_slice(alloc, line)?;
+    longer.extend_from_slice(b" 1")?;
+    Ok(longer)
+}
+
+#[test]
 fn numbers_of_arguments(rt: HostRuntime) -> Result<(), Fail> {
-    for (written, _) in LINES {
-        let mut longer = Vec::from_slice(rt.alloc(), written)?;
-        longer.extend_from_slice(b" 1")?;
-        assert_eq!(rt; Request::read(&longer).err(), Some(RequestFault::Arguments));
+    let wrong = Some(RequestFault::Arguments);
+    for (written, _) in &LINES {
+        faulty(&rt, &longer(rt.alloc(), written)?, wrong);
         if let Some(space) = written.iter().rposition(|byte| *byte == b' ') {
-            let shorter = written.get(..space).ok_or("a place in the line")?;
-            assert_eq!(rt; Request::read(shorter).err(), Some(RequestFault::Arguments));
+            faulty(&rt, written.get(..space).unwrap_or(b""), wrong);
         }
     }
     Ok(())
@@ -80,96 +112,99 @@ fn numbers_of_arguments(rt: HostRuntime) -> Result<(), Fail> {
 
 #[test]
 fn faults_of_operations(rt: HostRuntime) {
-    for line in [
-        b"".as_slice(),
-        b"   ",
-        b"HELPS",
-        b"HEL",
-        b"HELP\tme",
-        b"+HELP",
-        b"1 HELP",
-        b"SELECT-BOARD news",
-    ] {
-        assert_eq!(rt; Request::read(line).err(), Some(RequestFault::Unknown));
-    }
+    let unknown = Some(RequestFault::Unknown);
+    faulty(&rt, b"", unknown);
+    faulty(&rt, b"   ", unknown);
+    faulty(&rt, b"HELPS", unknown);
+    faulty(&rt, b"HEL", unknown);
+    faulty(&rt, b"HELP\tme", unknown);
+    faulty(&rt, b"+HELP", unknown);
+    faulty(&rt, b"1 HELP", unknown);
+    faulty(&rt, b"SELECT-BOARD news", unknown);
 }
 
 #[test]
 fn faults_of_numbers(rt: HostRuntime) {
     let wrong = Some(RequestFault::Arguments);
-    let rows = [
-        (b"SEND-VERSION 4294967295".as_slice(), None),
-        (b"SEND-VERSION 4294967296", wrong),
-        (b"SEND-VERSION 0000000001", None),
-        (b"SEND-VERSION 00000000001", wrong),
-        (b"SEND-VERSION -1", wrong),
-        (b"SEND-VERSION +1", wrong),
-        (b"FETCH-CHANGED-DESCRIPTORS 0", wrong),
-        (b"FETCH-CHANGED-DESCRIPTORS 1", None),
-        (b"FETCH-CHANGED-DESCRIPTORS 256", None),
-        (b"FETCH-CHANGED-DESCRIPTORS 257", wrong),
-        (b"SET-MESSAGE-FLAG 1 15 2", wrong),
-        (b"SET-MESSAGE-FLAG 1 15 0", None),
-        (b"SET-MESSAGE-FLAG 1 16 0", Some(RequestFault::BadFlag)),
-        (b"SET-MESSAGE-FLAG 1 x 0", wrong),
-        (b"SET-MESSAGE-FLAG 1 4294967296 0", wrong),
-    ];
-    for (line, fault) in rows {
-        assert_eq!(rt; Request::read(line).err(), fault);
-    }
+    faulty(&rt, b"SEND-VERSION 4294967295", None);
+    faulty(&rt, b"SEND-VERSION 4294967296", wrong);
+    faulty(&rt, b"SEND-VERSION 0000000001", None);
+    faulty(&rt, b"SEND-VERSION 00000000001", wrong);
+    faulty(&rt, b"SEND-VERSION -1", wrong);
+    faulty(&rt, b"SEND-VERSION +1", wrong);
+    faulty(&rt, b"FETCH-CHANGED-DESCRIPTORS 0", wrong);
+    faulty(&rt, b"FETCH-CHANGED-DESCRIPTORS 1", None);
+    faulty(&rt, b"FETCH-CHANGED-DESCRIPTORS 256", None);
+    faulty(&rt, b"FETCH-CHANGED-DESCRIPTORS 257", wrong);
+    faulty(&rt, b"SET-MESSAGE-FLAG 1 15 2", wrong);
+    faulty(&rt, b"SET-MESSAGE-FLAG 1 15 0", None);
+    faulty(&rt, b"SET-MESSAGE-FLAG 1 16 0", Some(RequestFault::BadFlag));
+    faulty(&rt, b"SET-MESSAGE-FLAG 1 x 0", wrong);
+    faulty(&rt, b"SET-MESSAGE-FLAG 1 4294967296 0", wrong);
 }
 
 #[test]
 fn faults_of_names_and_passwords(rt: HostRuntime) {
-    let wrong = Some(RequestFault::BadName);
-    let rows = [
-        (
-            b"CREATE-MAILBOX a23456789.123456789_123456789-12".as_slice(),
-            None,
-        ),
-        (b"CREATE-MAILBOX a23456789.123456789_123456789-123", wrong),
-        (b"CREATE-MAILBOX Work", wrong),
-        (b"CREATE-MAILBOX +work", wrong),
-        (b"SELECT-MAILBOX +", wrong),
-        (b"SELECT-MAILBOX ++news", wrong),
-        (b"SELECT-MAILBOX 1st", wrong),
-        (
-            b"SET-PASSWORD s 0123456789ABCDEF0123456789abcdef0123456789ABCDEF0123456789abcdef",
-            None,
-        ),
-        (
-            b"SET-PASSWORD s 0123456789ABCDEF0123456789abcdef0123456789ABCDEF0123456789abcdef0",
-            Some(RequestFault::Arguments),
-        ),
-        (b"SET-PASSWORD s a\x7f", Some(RequestFault::Arguments)),
-    ];
-    for (line, fault) in rows {
-        assert_eq!(rt; Request::read(line).err(), fault);
-    }
+    let bad = Some(RequestFault::BadName);
+    let wrong = Some(RequestFault::Arguments);
+    faulty(
+        &rt,
+        b"CREATE-MAILBOX a23456789.123456789_123456789-12",
+        None,
+    );
+    faulty(
+        &rt,
+        b"CREATE-MAILBOX a23456789.123456789_123456789-123",
+        bad,
+    );
+    faulty(&rt, b"CREATE-MAILBOX Work", bad);
+    faulty(&rt, b"CREATE-MAILBOX +work", bad);
+    faulty(&rt, b"SELECT-MAILBOX +", bad);
+    faulty(&rt, b"SELECT-MAILBOX ++news", bad);
+    faulty(&rt, b"SELECT-MAILBOX 1st", bad);
+    faulty(
+        &rt,
+        b"SET-PASSWORD s 0123456789ABCDEF0123456789abcdef0123456789ABCDEF0123456789abcdef",
+        None,
+    );
+    faulty(
+        &rt,
+        b"SET-PASSWORD s 0123456789ABCDEF0123456789abcdef0123456789ABCDEF0123456789abcdef0",
+        wrong,
+    );
+    faulty(&rt, b"SET-PASSWORD s a\x7f", wrong);
 }
 
 #[test]
 fn first_fault_from_the_left(rt: HostRuntime) {
-    let rows = [
-        (b"LOGIN Ann \x7f ws1 2 2".as_slice(), RequestFault::BadName),
-        (b"LOGIN ann \x7f WS1 2 2", RequestFault::Arguments),
-        (b"COPY-MESSAGE x Work", RequestFault::Arguments),
-        (b"COPY-MESSAGE 1 Work", RequestFault::BadName),
-        (b"RESET-SUBSCRIPTION News x", RequestFault::BadName),
-        (b"SET-MESSAGE-FLAG x 16 2", RequestFault::Arguments),
-        (b"SET-MESSAGE-FLAG 1 16 2", RequestFault::BadFlag),
-        (b"SET-MESSAGE-FLAG x 16", RequestFault::Arguments),
-    ];
-    for (line, fault) in rows {
-        assert_eq!(rt; Request::read(line).err(), Some(fault));
-    }
+    let bad = Some(RequestFault::BadName);
+    let wrong = Some(RequestFault::Arguments);
+    let flag = Some(RequestFault::BadFlag);
+    faulty(&rt, b"LOGIN Ann \x7f ws1 2 2", bad);
+    faulty(&rt, b"LOGIN ann \x7f WS1 2 2", wrong);
+    faulty(&rt, b"COPY-MESSAGE x Work", wrong);
+    faulty(&rt, b"COPY-MESSAGE 1 Work", bad);
+    faulty(&rt, b"RESET-SUBSCRIPTION News x", bad);
+    faulty(&rt, b"SET-MESSAGE-FLAG x 16 2", wrong);
+    faulty(&rt, b"SET-MESSAGE-FLAG 1 16 2", flag);
+    faulty(&rt, b"SET-MESSAGE-FLAG x 16", wrong);
 }
 
 #[test]
 fn a_failed_write_leaves_a_front(rt: HostRuntime) {
     let mut sink = MemorySink::new(rt.alloc()).in_pieces(4).failing_at(3);
-    assert!(rt; Request::ListMailboxes.write(&mut sink).is_err());
-    assert_eq!(rt; sink.bytes(), b"LIST-MAI".as_slice());
+    holds(
+        &rt,
+        "it fails",
+        Request::ListMailboxes.write(&mut sink).is_err(),
+    );
+    same(&rt, sink.bytes(), b"LIST-MAI");
+}
+
+/// The operation is found by its word.
+fn is_named(rt: &impl Abort, operation: Operation) {
+    let found = Operation::named(operation.word());
+    assert_eq!(rt; found, Some(operation));
 }
 
 #[test]
@@ -178,7 +213,7 @@ fn operations_in_order(rt: HostRuntime) -> Result<(), Fail> {
     for operation in Operation::all() {
         words.push(b' ')?;
         words.extend_from_slice(operation.word())?;
-        assert_eq!(rt; Operation::named(operation.word()), Some(*operation));
+        is_named(&rt, *operation);
     }
     let wanted =
         b" SEND-VERSION HELP LOGIN LOGOUT SET-PASSWORD LIST-CLIENTS CREATE-CLIENT DELETE-CLIENT \
@@ -186,6 +221,6 @@ fn operations_in_order(rt: HostRuntime) -> Result<(), Fail> {
         LIST-ADDRESSES CREATE-ADDRESS DELETE-ADDRESS LIST-SUBSCRIPTIONS LIST-AVAILABLE-SUBSCRIPTIONS \
         CREATE-SUBSCRIPTION DELETE-SUBSCRIPTION RESET-SUBSCRIPTION FETCH-DESCRIPTORS FETCH-CHANGED-DESCRIPTORS \
         RESET-DESCRIPTORS FETCH-HEADERS FETCH-MESSAGE COPY-MESSAGE SET-MESSAGE-FLAG SEND-MESSAGE";
-    assert_eq!(rt; words.as_slice(), wanted.as_slice());
+    same(&rt, &words, wanted);
     Ok(())
 }

@@ -2,7 +2,8 @@
 use Rattle.std.proofs.Common.{◌≡◌, ◌∙◌, ℕ, List, Option, Result, Ok, Err, map, refl, sym, ap, subst, IfOk, IfErr}
 use Rattle.std.proofs.lemmas.Simd.{map-map}
 use Rattle.pc_base.specs.declared.refusal.Refusal.{Refusal}
-use Rattle.pc_account.specs.Answers.{client_row, Tells as Answers}
+use Rattle.pc_base.specs.AskFault.{Tells as Answers}
+use Rattle.pc_account.specs.Answers.{client_row}
 use Rattle.pc_account.specs.declared.answer.Answer.{Answer}
 use Rattle.pc_account.specs.declared.answer.ClientRow.{ClientRow}
 use Rattle.pc_reply.specs.declared.head.Head.TheVariants as head

@@ -2,10 +2,10 @@
 use Rattle.std.proofs.Common.{◌≡◌, ℕ, Bool, false, List, [], ◌∷◌, ◌++◌, Option, None, Some, Result, Ok, Err, if◌then◌else◌, inl, refl, sym, ap, ◌∙◌, subst}
 use Rattle.pc_base.specs.declared.refusal.Refusal.{Refusal}
 use Rattle.pc_base.specs.declared.refusal.Refusal.TheVariants.{JournalFull}
-use Rattle.pc_account.specs.Answers.{Tells as Answers}
-use Rattle.pc_account.specs.declared.wish.AskFault.{AskFault}
-use Rattle.pc_account.specs.declared.wish.AskFault.TheVariants as ask
-use Rattle.pc_history.specs.declared.entry.Entry.{Entry}
+use Rattle.pc_base.specs.declared.ask_fault.AskFault.{AskFault}
+use Rattle.pc_base.specs.declared.ask_fault.AskFault.TheVariants as ask
+use Rattle.pc_base.specs.AskFault.{Tells as Answers}
+use Rattle.pc_account_history.specs.declared.entry.Entry.{Entry}
 use Rattle.pc_reply.specs.declared.head.Head.TheVariants as head
 use Rattle.pc_session.specs.declared.answered.Answered.{Answered}
 use Rattle.pc_session.specs.declared.answered.Failure.{Failure}

@@ -4,9 +4,9 @@ use Rattle.pc_base.specs.Stream.{Rose}
 use Rattle.pc_base.specs.declared.refusal.Refusal.{Refusal}
 use Rattle.pc_base.specs.declared.refusal.Refusal.TheVariants.{JournalFull, LimitReached}
 use Rattle.pc_base.specs.declared.refusal.LimitWord.TheVariants.{Sessions}
-use Rattle.pc_history.specs.declared.entry.Entry.{Entry}
-use Rattle.pc_history.specs.History.{History, ◌▸◌, next}
-use Rattle.pc_history.specs.Table.{same}
+use Rattle.pc_account_history.specs.declared.entry.Entry.{Entry}
+use Rattle.pc_account_history.specs.History.{History, ◌▸◌, next}
+use Rattle.pc_tables.specs.Table.{same}
 use Rattle.pc_reply.specs.declared.head.Head.TheVariants as head
 use Rattle.pc_session.specs.declared.access.Latest.{Latest}
 use Rattle.pc_session.specs.declared.answered.Answered.{Answered}

@@ -4,11 +4,12 @@ use Rattle.std.specs.List.{find}
 use Rattle.std.specs.Option.{option_map_or}
 use Rattle.std.proofs.lemmas.Bool.{eqb-true}
 use Rattle.std.proofs.lemmas.List.{reverse-append}
-use Rattle.pc_history.specs.declared.entry.Entry.{Entry}
-use Rattle.pc_history.specs.History.{History, start, ◌▸◌, next}
-use Rattle.pc_history.specs.Table.{same}
-use Rattle.pc_history.proofs.Tables.{same-refl, some-none}
-use Rattle.pc_spelling.specs.Spelling.{spelled_entry}
+use Rattle.pc_account_history.specs.declared.entry.Entry.{Entry}
+use Rattle.pc_account_history.specs.History.{History, start, ◌▸◌, next}
+use Rattle.pc_tables.specs.Table.{same}
+use Rattle.pc_tables.proofs.Table.{same-refl}
+use Rattle.pc_tables.proofs.Options.{some-none}
+use Rattle.pc_account_spelling.specs.Spelling.{spelled_entry}
 use Rattle.pc_session.specs.declared.receipts.Receipt.{Receipt}
 use Rattle.pc_session.specs.Desk.{entry_at}
 use Rattle.pc_session.specs.Receipts.{is_account_of, missing, missing_in, pass_of, receipt_of}

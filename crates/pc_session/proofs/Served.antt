@@ -4,9 +4,9 @@ use Rattle.std.specs.Option.{option_map_or}
 use Rattle.pc_base.specs.declared.refusal.Refusal.{Refusal}
 use Rattle.pc_base.specs.declared.refusal.Refusal.TheVariants.{ClientHasSession, JournalFull, BadUserOrPassword, LimitReached, NoMailboxSelected, NoSuchClient, NotLoggedIn, UnknownOperation, VersionUnknown}
 use Rattle.pc_base.specs.declared.refusal.LimitWord.TheVariants.{Sessions}
-use Rattle.pc_history.specs.Allowed.{is_client}
-use Rattle.pc_history.specs.History.{History, birth, known, next}
-use Rattle.pc_history.specs.declared.entry.Entry.{Entry}
+use Rattle.pc_account_history.specs.Allowed.{is_client}
+use Rattle.pc_account_history.specs.History.{History, birth, known, next}
+use Rattle.pc_account_history.specs.declared.entry.Entry.{Entry}
 use Rattle.pc_account.specs.Answers.{answered}
 use Rattle.pc_account.specs.Digest.{digest_of}
 use Rattle.pc_account.specs.Plan.{planned}

@@ -4,10 +4,10 @@ use Rattle.pc_base.specs.Stream.{Rose}
 use Rattle.pc_base.specs.declared.refusal.Refusal.{Refusal}
 use Rattle.pc_base.specs.declared.refusal.Refusal.TheVariants.{JournalFull, LimitReached, NoSuchClient}
 use Rattle.pc_base.specs.declared.refusal.LimitWord.TheVariants.{Sessions}
-use Rattle.pc_account.specs.declared.wish.AskFault.{AskFault}
-use Rattle.pc_account.specs.declared.wish.AskFault.TheVariants as ask
-use Rattle.pc_history.specs.declared.entry.Entry.{Entry}
-use Rattle.pc_history.specs.History.{next}
+use Rattle.pc_base.specs.declared.ask_fault.AskFault.{AskFault}
+use Rattle.pc_base.specs.declared.ask_fault.AskFault.TheVariants as ask
+use Rattle.pc_account_history.specs.declared.entry.Entry.{Entry}
+use Rattle.pc_account_history.specs.History.{next}
 use Rattle.pc_reply.specs.Head.{has_list}
 use Rattle.pc_reply.specs.declared.head.Head.{Head}
 use Rattle.pc_reply.specs.declared.head.Head.TheVariants as head

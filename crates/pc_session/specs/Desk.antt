@@ -3,16 +3,16 @@ use Rattle.std.specs.Prelude.{◌≡◌, ◌⊎◌, ℕ, suc, ◌+◌, ◌-◌, 
 use Rattle.std.specs.Option.{option_map}
 use Rattle.pc_base.specs.Stream.{Rose}
 use Rattle.pc_base.specs.declared.room.Room.{Room}
-use Rattle.pc_history.specs.declared.entry.Entry.{Entry}
-use Rattle.pc_history.specs.declared.entry.Entry.TheVariants.{DropClient, MakeMailbox}
-use Rattle.pc_history.specs.Table.{same}
-use Rattle.pc_history.specs.History.{History, start, ◌▸◌, next}
-use Rattle.pc_spelling.specs.Spelling.{spelled_entry}
-use Rattle.pc_holdings.specs.State.{State}
-use Rattle.pc_store.specs.declared.fault.CommitFault.{CommitFault}
-use Rattle.pc_store.specs.declared.fault.CommitFault.TheVariants as commit
-use Rattle.pc_store.specs.declared.fault.StoreFault.{StoreFault}
-use Rattle.pc_store.specs.declared.fault.StoreFault.TheVariants as store
+use Rattle.pc_account_history.specs.declared.entry.Entry.{Entry}
+use Rattle.pc_account_history.specs.declared.entry.Entry.TheVariants.{DropClient, MakeMailbox}
+use Rattle.pc_tables.specs.Table.{same}
+use Rattle.pc_account_history.specs.History.{History, start, ◌▸◌, next}
+use Rattle.pc_account_spelling.specs.Spelling.{spelled_entry}
+use Rattle.pc_account_holdings.specs.State.{State}
+use Rattle.pc_base.specs.declared.store_fault.CommitFault.{CommitFault}
+use Rattle.pc_base.specs.declared.store_fault.CommitFault.TheVariants as commit
+use Rattle.pc_base.specs.declared.store_fault.StoreFault.{StoreFault}
+use Rattle.pc_base.specs.declared.store_fault.StoreFault.TheVariants as store
 use Rattle.pc_session.specs.declared.access.Latest.{Latest}
 use Rattle.pc_session.specs.declared.state.Who.{Who}
 use Rattle.pc_session.specs.declared.state.Who.TheVariants.{Nobody, Console, Client}

@@ -1,7 +1,7 @@
 -- The desks of a repository, and what a request that is asked of it comes to.
 use Rattle.std.specs.Prelude.{◌≡◌, ℕ, ◌≤◌, Bool, false, List, Option, None, Some, is_some, MatchOption}
 use Rattle.pc_base.specs.declared.refusal.Refusal.TheVariants.{BadUserOrPassword}
-use Rattle.pc_history.specs.Table.{same}
+use Rattle.pc_tables.specs.Table.{same}
 use Rattle.pc_reply.specs.declared.head.Head.TheVariants as head
 use Rattle.pc_reply.specs.declared.reply.Reply.{Reply}
 use Rattle.pc_request.specs.declared.request.Request.{Request}

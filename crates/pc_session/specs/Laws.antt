@@ -1,8 +1,8 @@
 -- What callers rely on of every answer and of all receipts.
 use Rattle.std.specs.Prelude.{◌≡◌, ℕ, false, List, [], ◌∷◌, ◌++◌, None}
-use Rattle.pc_history.specs.declared.entry.Entry.{Entry}
-use Rattle.pc_history.specs.History.{History, ◌▸◌, next}
-use Rattle.pc_history.specs.Table.{same}
+use Rattle.pc_account_history.specs.declared.entry.Entry.{Entry}
+use Rattle.pc_account_history.specs.History.{History, ◌▸◌, next}
+use Rattle.pc_tables.specs.Table.{same}
 use Rattle.pc_reply.specs.declared.head.Head.TheVariants as head
 use Rattle.pc_request.specs.declared.request.Request.{Request}
 use Rattle.pc_session.specs.declared.receipts.Receipt.{Receipt}

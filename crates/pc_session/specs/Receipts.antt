@@ -4,10 +4,10 @@ use Rattle.std.specs.Option.{option_map_or}
 use Rattle.std.specs.List.{find}
 use Rattle.pc_base.specs.declared.name.StoreName.{StoreName}
 use Rattle.pc_base.specs.declared.name.StoreName.TheVariants.{Office, Account}
-use Rattle.pc_history.specs.declared.entry.Entry.{Entry}
-use Rattle.pc_history.specs.Table.{same}
-use Rattle.pc_history.specs.History.{History}
-use Rattle.pc_spelling.specs.Spelling.{spelled_entry}
+use Rattle.pc_account_history.specs.declared.entry.Entry.{Entry}
+use Rattle.pc_tables.specs.Table.{same}
+use Rattle.pc_account_history.specs.History.{History}
+use Rattle.pc_account_spelling.specs.Spelling.{spelled_entry}
 use Rattle.pc_session.specs.declared.receipts.Receipt.{Receipt}
 use Rattle.pc_session.specs.Desk.{entry_at}
 

@@ -6,10 +6,10 @@ use Rattle.pc_base.specs.declared.refusal.Refusal.{Refusal}
 use Rattle.pc_base.specs.declared.refusal.Refusal.TheVariants.{UnknownOperation, NotLoggedIn, BadUserOrPassword, NoSuchClient, NoMailboxSelected, LimitReached, ClientHasSession, JournalFull, VersionUnknown}
 use Rattle.pc_base.specs.declared.refusal.LimitWord.TheVariants.{Sessions}
 use Rattle.pc_message.specs.Header.{header_of}
-use Rattle.pc_history.specs.declared.entry.Entry.{Entry}
-use Rattle.pc_history.specs.Allowed.{is_client}
-use Rattle.pc_history.specs.History.{History, known, next, birth}
-use Rattle.pc_history.specs.Table.{same}
+use Rattle.pc_account_history.specs.declared.entry.Entry.{Entry}
+use Rattle.pc_account_history.specs.Allowed.{is_client}
+use Rattle.pc_account_history.specs.History.{History, known, next, birth}
+use Rattle.pc_tables.specs.Table.{same}
 use Rattle.pc_account.specs.Answers.{answered}
 use Rattle.pc_account.specs.Digest.{digest_of}
 use Rattle.pc_account.specs.Plan.{planned}

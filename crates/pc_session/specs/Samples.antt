@@ -2,12 +2,12 @@
 use Rattle.std.specs.Prelude.{◌≡◌, ℕ, true, false, List, [], ◌∷◌, map, codes, length, Option, Some, None, if◌then◌else◌}
 use Rattle.pc_base.specs.declared.refusal.Refusal.TheVariants as refusal
 use Rattle.pc_base.specs.declared.refusal.LimitWord.TheVariants as limit
-use Rattle.pc_history.specs.declared.entry.Entry.TheVariants.{Flag, Forget, MakeClient}
-use Rattle.pc_history.specs.declared.kept.Listed.{Listed}
-use Rattle.pc_history.specs.History.{History, ◌▸◌}
-use Rattle.pc_history.specs.Samples.{box, enrolled, first_client, five_pulled, flag_between, pairs_of, second_client}
-use Rattle.pc_history.specs.Table.{same}
-use Rattle.pc_holdings.specs.State.{new_state}
+use Rattle.pc_account_history.specs.declared.entry.Entry.TheVariants.{Flag, Forget, MakeClient}
+use Rattle.pc_account_history.specs.declared.kept.Listed.{Listed}
+use Rattle.pc_account_history.specs.History.{History, ◌▸◌}
+use Rattle.pc_account_history.specs.Samples.{box, enrolled, first_client, five_pulled, flag_between, pairs_of, second_client}
+use Rattle.pc_tables.specs.Table.{same}
+use Rattle.pc_account_holdings.specs.State.{new_state}
 use Rattle.pc_reply.specs.Items.{client_text}
 use Rattle.pc_reply.specs.declared.items.Mode.TheVariants.{Interactive, Batch}
 use Rattle.pc_reply.specs.declared.head.Head.{Head}

@@ -1,8 +1,8 @@
 -- What a request asks of the account, and what that comes to.
 use Rattle.std.specs.Prelude.{◌≡◌, ℕ, ⊤, List, Option, None, Some, Result, Ok, Err}
 use Rattle.pc_base.specs.declared.refusal.Refusal.{Refusal}
-use Rattle.pc_history.specs.History.{known}
-use Rattle.pc_history.specs.Known.{Known}
+use Rattle.pc_account_history.specs.History.{known}
+use Rattle.pc_account_history.specs.Known.{Known}
 use Rattle.pc_account.specs.Answers.{answered}
 use Rattle.pc_account.specs.Plan.{IsWish}
 use Rattle.pc_account.specs.declared.answer.Question.TheVariants as question

@@ -3,8 +3,8 @@ use Rattle.std.specs.Prelude.{◌≡◌, ◌⊎◌, ℕ, suc, ◌+◌, ◌%◌, 
 use Rattle.std.specs.Option.{option_map_or}
 use Rattle.pc_base.specs.Stream.{Rose}
 use Rattle.pc_base.specs.declared.refusal.Refusal.{Refusal}
-use Rattle.pc_history.specs.declared.entry.Entry.{Entry}
-use Rattle.pc_history.specs.History.{History, ◌▸◌, next}
+use Rattle.pc_account_history.specs.declared.entry.Entry.{Entry}
+use Rattle.pc_account_history.specs.History.{History, ◌▸◌, next}
 use Rattle.pc_reply.specs.declared.head.Head.{Head}
 use Rattle.pc_reply.specs.declared.head.Head.TheVariants as head
 use Rattle.pc_reply.specs.declared.reply.Reply.{Reply}

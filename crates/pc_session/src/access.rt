@@ -1,16 +1,15 @@
 //! What a session uses of the desk of a user.
 
 ghost use Rattle.std.specs.Prelude.{◌≡◌, ℕ, ◌≤◌, List, true, false, None, IsTrue, IfSome, MatchOption};
-ghost use Rattle.pc_holdings.specs.State.{StandsFor};
-ghost use Rattle.pc_records.specs.Legal.{accepts};
-ghost use Rattle.pc_spelling.specs.EntryForm.{entry_fits};
-ghost use Rattle.pc_store.specs.Commit.{OnDevice};
+ghost use Rattle.pc_base.specs.CommitFault.{OnDevice};
+ghost use Rattle.pc_account_holdings.specs.State.{StandsFor};
+ghost use Rattle.pc_account_records.specs.Legal.{accepts};
+ghost use Rattle.pc_account_spelling.specs.EntryForm.{entry_fits};
 ghost use Rattle.pc_session.specs.Desk.{DeskState, Commits, Opens, Released, Takes, entry_at, room_of};
 
 use pc_account::Account;
-use pc_base::{Name, Room};
-use pc_history::Entry;
-use pc_store::{CommitFault, StoreFault};
+use pc_account_history::Entry;
+use pc_base::{CommitFault, Name, Room, StoreFault};
 use std::alloc::Global;
 
 /// The latest session of a client: the one that was drawn for it last.

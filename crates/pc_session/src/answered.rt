@@ -6,8 +6,7 @@ ghost use Rattle.pc_session.specs.Repository.{plain};
 ghost use Rattle.pc_session.specs.declared.answered.Failure.TheVariants as failure;
 
 use crate::state::{SessionState, Who};
-use pc_account::AskFault;
-use pc_base::{Lines, Memory, Name, Refusal};
+use pc_base::{AskFault, Lines, Memory, Name, Refusal};
 use pc_mailbox::Shown;
 use pc_reply::{Head, Reply};
 use std::alloc::Global;

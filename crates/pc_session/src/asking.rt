@@ -2,7 +2,7 @@
 
 ghost use Rattle.std.specs.Prelude.{◌≡◌, false, map, IfOk};
 ghost use Rattle.std.specs.List.{flat_map};
-ghost use Rattle.pc_history.specs.History.{known};
+ghost use Rattle.pc_account_history.specs.History.{known};
 ghost use Rattle.pc_account.specs.Answers.{answered as answers};
 ghost use Rattle.pc_account.specs.declared.answer.Question.TheVariants as question;
 ghost use Rattle.pc_reply.specs.Items.{change_lines};

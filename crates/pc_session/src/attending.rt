@@ -17,11 +17,10 @@ use crate::needs::Needs;
 use crate::receipts::Receipt;
 use crate::session::Session;
 use crate::state::{SessionState, Who};
-use pc_base::{Bytes, Name, Refusal, StoreName};
+use pc_account_spelling::write_entry;
+use pc_base::{Bytes, Name, Refusal, StoreFault, StoreName};
 use pc_reply::Reply;
 use pc_request::Request;
-use pc_spelling::write_entry;
-use pc_store::StoreFault;
 use std::alloc::Global;
 
 /// The refusal of a request by the session's state: that another session took its client over, or that the client

@@ -2,10 +2,10 @@
 
 ghost use Rattle.std.specs.Prelude.{◌≡◌, ◌≤◌, false, true, None, IfOk, IfErr, IsTrue};
 ghost use Rattle.pc_account.specs.Plan.{IsWish};
-ghost use Rattle.pc_holdings.specs.State.{said};
-ghost use Rattle.pc_records.specs.Legal.{accepts};
-ghost use Rattle.pc_spelling.specs.EntryForm.{entry_fits};
-ghost use Rattle.pc_spelling.specs.Spelling.{spelled_entry};
+ghost use Rattle.pc_account_holdings.specs.State.{said};
+ghost use Rattle.pc_account_records.specs.Legal.{accepts};
+ghost use Rattle.pc_account_spelling.specs.EntryForm.{entry_fits};
+ghost use Rattle.pc_account_spelling.specs.Spelling.{spelled_entry};
 ghost use Rattle.pc_session.specs.Answering.{Comes, Makes, OnDevice};
 ghost use Rattle.pc_session.specs.Repository.{as_user, changes, sets_password, takes_away};
 ghost use Rattle.pc_session.specs.declared.answered.Failure.TheVariants as failure;
@@ -15,11 +15,10 @@ use crate::answered::{Answered, Failure, Move, plainly};
 use crate::receipts::{Receipt, Receipts};
 use crate::state::SessionState;
 use pc_account::{Wish, digest};
-use pc_base::{Bytes, Name, Password, Refusal, StoreName};
-use pc_history::Entry;
+use pc_account_history::Entry;
+use pc_account_spelling::write_entry;
+use pc_base::{Bytes, CommitFault, Name, Password, Refusal, StoreName};
 use pc_reply::Head;
-use pc_spelling::write_entry;
-use pc_store::CommitFault;
 use std::alloc::Global;
 
 /// Carries out a wish: its entry is made, where it comes to one.

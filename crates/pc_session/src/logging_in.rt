@@ -1,14 +1,14 @@
 //! Logging in.
 
 ghost use Rattle.std.specs.Prelude.{◌≡◌, ℕ, ◌≤◌, false, true, List, None, IfOk, IfErr, IsTrue};
-ghost use Rattle.pc_history.specs.History.{known};
+ghost use Rattle.pc_account_history.specs.History.{known};
 ghost use Rattle.pc_account.specs.Plan.{planned};
 ghost use Rattle.pc_account.specs.declared.wish.Wish.TheVariants as wish;
-ghost use Rattle.pc_records.specs.Legal.{accepts};
+ghost use Rattle.pc_account_records.specs.Legal.{accepts};
 ghost use Rattle.pc_session.specs.Answering.{Comes, Draws, OnDevice, PlansClient};
 ghost use Rattle.pc_session.specs.Desk.{has_room};
 ghost use Rattle.pc_reply.specs.declared.head.Head.TheVariants as head;
-ghost use Rattle.pc_spelling.specs.EntryForm.{entry_fits};
+ghost use Rattle.pc_account_spelling.specs.EntryForm.{entry_fits};
 ghost use Rattle.pc_session.specs.Repository.{enters, logs_in_knowing, makes_client, plain, unless_drawn};
 ghost use Rattle.pc_session.specs.declared.answered.Failure.TheVariants as failure;
 ghost use Rattle.pc_session.specs.declared.answered.Move.TheVariants as moves;
@@ -21,8 +21,8 @@ use crate::changing::{make, spell};
 use crate::receipts::Receipts;
 use crate::state::SessionState;
 use pc_account::{Wish, digest};
+use pc_account_history::Entry;
 use pc_base::{LimitWord, Name, Password, Refusal};
-use pc_history::Entry;
 use pc_reply::Head;
 use std::alloc::Global;
 

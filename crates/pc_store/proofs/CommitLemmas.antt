@@ -6,9 +6,9 @@ use Rattle.pc_base.specs.declared.machine.Machine.{Ghosts}
 use Rattle.std.specs.Bool.{then_some}
 use Rattle.pc_base.specs.Machine.{IsNumbered}
 use Rattle.pc_disk.specs.Images.{Images, area_of, other_of, InArea}
-use Rattle.pc_disk.specs.Outcomes.{IsStill, Keeps, LeavesOnly, Only, SameDue}
+use Rattle.pc_disk.specs.Outcomes.{IsStill, Keeps, LeavesFirst, LeavesOnly, Only, SameDue}
 use Rattle.pc_disk.specs.StepFaults.{LeadsOn}
-use Rattle.pc_disk.proofs.Runs.{started, stays, followed, weakened}
+use Rattle.pc_disk.proofs.Runs.{started, stays, followed, weakened, first_weakened}
 use Rattle.pc_log.specs.Area.{Head, IsEntry, IsHead, IsTrail, Spelled, bytes_of}
 use Rattle.pc_log.specs.Logs.{LogState, Stands, Without, WithOrWithout, stands-still}
 use Rattle.pc_store.specs.History.{AreAllowed, IsHistory, IsReplay, Opens, StandsFor, after, written_of}
@@ -222,19 +222,22 @@ run_either machine tells seen may_leave moment left_since store log bytes mid ne
     let ended = weakened moment left_since mid new Q P (leads_either machine store.head store.trail store.state entry log.area written (may_leave store.disk) (may_leave mid) follow sound.in_area is still.leaves) run in
     followed moment left_since store.disk mid new P begun ended
 
--- and without it
-pub run_without : {M D E : Type 0} (machine : Ghosts M E) (tells : Type 0) (seen : D → Images) (may_leave : D → Images → Type 0) (moment : D → ℕ) (left_since : D → ℕ → Images → Type 0) (store : StoreState M D E) (log : LogState) (bytes : ℕ) (mid new : D) (entry : E)
-    → IsSound machine tells seen may_leave store log bytes → store.broken ≡ false → MayFollow machine store.head store.trail store.state entry → tells
+-- and up to its second call without it
+pub run_first : {M D E : Type 0} (machine : Ghosts M E) (tells : Type 0) (seen : D → Images) (may_leave : D → Images → Type 0) (moment : D → ℕ) (left_since : D → ℕ → Images → Type 0) (store : StoreState M D E) (log : LogState) (bytes : ℕ) (mid new : D) (entry : E) (written : List ℕ)
+    → IsSound machine tells seen may_leave store log bytes → store.broken ≡ false → MayFollow machine store.head store.trail store.state entry → written ≡ machine.written entry → tells
     → ((left : Images) → left_since store.disk (moment store.disk) left → may_leave store.disk left)
     → IsStill (seen store.disk) (seen mid) (may_leave store.disk) (may_leave mid) (left_since store.disk) (left_since mid) → moment mid ≡ moment store.disk
-    → LeavesOnly moment left_since mid new (LeadsOn (InArea log.area (Without store.head (written_of machine store.trail))) (may_leave mid))
-    → LeavesOnly moment left_since store.disk new (LeadsOn (InArea 0 (StandsWithout machine store.head store.trail)) (may_leave store.disk))
-run_without machine tells seen may_leave moment left_since store log bytes mid new entry sound whole follow told only_now still same run =
-    let P : Images → Type 0 = LeadsOn (InArea 0 (StandsWithout machine store.head store.trail)) (may_leave store.disk) in
-    let Q : Images → Type 0 = LeadsOn (InArea log.area (Without store.head (written_of machine store.trail))) (may_leave mid) in
-    let begun = rested moment left_since may_leave (seen store.disk) (seen mid) store.disk mid P only_now still same (rests_without machine tells seen may_leave store log bytes sound whole told) in
-    let ended = weakened moment left_since mid new Q P (leads_without machine store.head store.trail store.state entry log.area (may_leave store.disk) (may_leave mid) follow sound.in_area still.leaves) run in
-    followed moment left_since store.disk mid new P begun ended
+    → LeavesFirst moment left_since 2 mid new (LeadsOn (InArea log.area (Without store.head (written_of machine store.trail))) (may_leave mid)) (LeadsOn (InArea log.area (WithOrWithout store.head (written_of machine store.trail) written)) (may_leave mid))
+    → LeavesFirst moment left_since 2 store.disk new (LeadsOn (InArea 0 (StandsWithout machine store.head store.trail)) (may_leave store.disk)) (LeadsOn (InArea 0 (StandsWithOrWithout machine store.head store.trail entry)) (may_leave store.disk))
+run_first machine tells seen may_leave moment left_since store log bytes mid new entry written sound whole follow is told only_now still same run =
+    let without : Images → Type 0 = LeadsOn (InArea 0 (StandsWithout machine store.head store.trail)) (may_leave store.disk) in
+    let either : Images → Type 0 = LeadsOn (InArea 0 (StandsWithOrWithout machine store.head store.trail entry)) (may_leave store.disk) in
+    let record_torn : Images → Type 0 = LeadsOn (InArea log.area (Without store.head (written_of machine store.trail))) (may_leave mid) in
+    let gate_torn : Images → Type 0 = LeadsOn (InArea log.area (WithOrWithout store.head (written_of machine store.trail) written)) (may_leave mid) in
+    let begun = rested moment left_since may_leave (seen store.disk) (seen mid) store.disk mid without only_now still same (rests_without machine tells seen may_leave store log bytes sound whole told) in
+    first_weakened moment left_since 2 store.disk mid new record_torn without gate_torn either begun same
+    (leads_without machine store.head store.trail store.state entry log.area (may_leave store.disk) (may_leave mid) follow sound.in_area still.leaves)
+    (leads_either machine store.head store.trail store.state entry log.area written (may_leave store.disk) (may_leave mid) follow sound.in_area is still.leaves) run
 
 -- the other area is as it was
 pub other_kept : {D : Type 0} (seen : D → Images) (may_leave : D → Images → Type 0) (moment : D → ℕ) (left_since : D → ℕ → Images → Type 0) (old new : D) (step : List ℕ → List ℕ → Type 0)

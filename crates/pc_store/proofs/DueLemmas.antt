@@ -4,8 +4,8 @@ use Rattle.pc_disk.specs.Outcomes.{SameDue}
 use Rattle.pc_log.specs.declared.fault.LogFault.{LogFault}
 use Rattle.pc_log.specs.declared.fault.LogFault.TheVariants as log
 use Rattle.pc_log.specs.Opening as log_opening
-use Rattle.pc_store.specs.declared.fault.StoreFault.{StoreFault}
-use Rattle.pc_store.specs.declared.fault.StoreFault.TheVariants.{NotMade, Device, Malformed, Memory}
+use Rattle.pc_base.specs.declared.store_fault.StoreFault.{StoreFault}
+use Rattle.pc_base.specs.declared.store_fault.StoreFault.TheVariants.{NotMade, Device, Malformed, Memory}
 use Rattle.pc_store.specs.Opening.{DueOrTaken, FailsWhereDue, IfDevice, OnDevice, SyncsOnce}
 use Rattle.pc_store.specs.Reading.{of_log}
 

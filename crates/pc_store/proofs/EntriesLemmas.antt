@@ -8,8 +8,9 @@ use Rattle.pc_base.specs.Machine.{IsNumbered}
 use Rattle.pc_log.specs.Area.{IsEntry, bytes_of, entry_bytes}
 use Rattle.pc_log.specs.Reading.{OpeningState, Reached, has_room, next_of}
 use Rattle.pc_log.specs.Opening.{Reads}
-use Rattle.pc_store.specs.declared.fault.StoreFault.{StoreFault}
-use Rattle.pc_store.specs.declared.fault.StoreFault.TheVariants.{NotMade, Device, Malformed, Memory}
+use Rattle.pc_base.specs.declared.store_fault.StoreFault.{StoreFault}
+use Rattle.pc_base.specs.declared.store_fault.StoreFault.TheVariants.{NotMade, Device, Malformed, Memory}
+use Rattle.pc_log.proofs.Trails.{room_of}
 use Rattle.pc_store.specs.declared.reading.ReadEntry.{ReadEntry}
 use Rattle.pc_store.specs.History.{after, written_of}
 use Rattle.pc_store.specs.Opening.{FaultBehind}
@@ -103,9 +104,6 @@ takes_more machine tells area old mid new state state' state'' first number trai
       allowed = AreAllowed-push machine state trail entry so_far.allowed (ap (λ (s : _). machine.can s entry) (sym so_far.leads) ∙ next.allowed);
       leads = next.stepped ∙ ap (λ (s : _). machine.step s entry) so_far.leads ∙ sym (after-push machine state trail entry);
     }
-  where
-    room_of : (reached : Reached) (count : ℕ) → has_room reached count ≡ true → (reached.entries < 65536) × (reached.bytes + count ≤ 16777216)
-    room_of reached count room = grind (arith, nat_tests)
 
 pub within : (kept : Option ℕ) (number : ℕ) → IsNumbered kept number → number < 2 ^ 63 → IfSome kept (λ n. n < 2 ^ 63)
 within None number is less = tt

@@ -9,8 +9,8 @@ use Rattle.pc_log.specs.Opening.{BeginsWith, Reads}
 use Rattle.pc_log.specs.Reading.{OpeningState, Reached, behind_head, head_of, next_of}
 use Rattle.pc_log.proofs.Entries.{length-entry_bytes, closed_takes}
 use Rattle.pc_log.proofs.Trails.{area_read, length-front}
-use Rattle.pc_store.specs.declared.fault.StoreFault.{StoreFault}
-use Rattle.pc_store.specs.declared.fault.StoreFault.TheVariants.{NotMade, Device, Malformed, Memory}
+use Rattle.pc_base.specs.declared.store_fault.StoreFault.{StoreFault}
+use Rattle.pc_base.specs.declared.store_fault.StoreFault.TheVariants.{NotMade, Device, Malformed, Memory}
 use Rattle.pc_store.specs.declared.reading.Entries.{Entries}
 use Rattle.pc_store.specs.History.{AreAllowed, after, written_of}
 use Rattle.pc_store.specs.Opening.{FaultBehind, IsFaultOf}

@@ -5,8 +5,8 @@ use Rattle.pc_disk.specs.Outcomes.{SameDue}
 use Rattle.pc_log.specs.declared.fault.LogFault.{LogFault}
 use Rattle.pc_log.specs.declared.fault.LogFault.TheVariants as log
 use Rattle.pc_log.specs.Making.{MakingFails, NoneDue, OnlyLastDue}
-use Rattle.pc_store.specs.declared.fault.StoreFault.{StoreFault}
-use Rattle.pc_store.specs.declared.fault.StoreFault.TheVariants.{NotMade, Device, Malformed, Memory}
+use Rattle.pc_base.specs.declared.store_fault.StoreFault.{StoreFault}
+use Rattle.pc_base.specs.declared.store_fault.StoreFault.TheVariants.{NotMade, Device, Malformed, Memory}
 use Rattle.pc_store.specs.Opening.{DueOrTaken, FailsWhereDue, IsOutside, MakesWhereDue, MakingCalls, SyncsOnce}
 use Rattle.pc_store.specs.Reading.{of_log}
 

@@ -7,8 +7,8 @@ use Rattle.pc_disk.specs.Outcomes.{Keeps}
 use Rattle.pc_log.specs.Area.{Head, front}
 use Rattle.pc_log.specs.Logs.{LogState, IsLogOf, Stands}
 use Rattle.pc_log.proofs.Trails.{area_again}
-use Rattle.pc_store.specs.declared.fault.StoreFault.{StoreFault}
-use Rattle.pc_store.specs.declared.fault.StoreFault.TheVariants.{NotMade, Device, Malformed, Memory}
+use Rattle.pc_base.specs.declared.store_fault.StoreFault.{StoreFault}
+use Rattle.pc_base.specs.declared.store_fault.StoreFault.TheVariants.{NotMade, Device, Malformed, Memory}
 use Rattle.pc_store.specs.declared.reading.History.{History}
 use Rattle.pc_store.specs.History.{IsHistory, IsReplay, Opens, StandsFor, after, written_of}
 use Rattle.pc_store.specs.Opening.{IsFaultOf, IsOutside}

@@ -6,8 +6,8 @@ use Rattle.pc_log.specs.declared.fault.LogFault.TheVariants as log
 use Rattle.pc_log.specs.declared.found.PlacedEntry.{PlacedEntry}
 use Rattle.pc_log.specs.Reading.{OpeningState, next_of}
 use Rattle.pc_log.specs.Opening.{Gives, Passes, bytes_of_next}
-use Rattle.pc_store.specs.declared.fault.StoreFault.{StoreFault}
-use Rattle.pc_store.specs.declared.fault.StoreFault.TheVariants.{NotMade, Device, Malformed, Memory}
+use Rattle.pc_base.specs.declared.store_fault.StoreFault.{StoreFault}
+use Rattle.pc_base.specs.declared.store_fault.StoreFault.TheVariants.{NotMade, Device, Malformed, Memory}
 use Rattle.pc_store.specs.Opening.{FaultBehind, limited}
 use Rattle.pc_store.specs.Opening.FaultBehind.{cut_off, past_last, unread, not_allowed}
 use Rattle.pc_store.specs.Reading.{NextIs, MakesEntry, limited_fault}

@@ -2,35 +2,14 @@
 use Rattle.std.specs.Prelude.{◌≡◌, ◌⊎◌, ℕ, ◌+◌, ◌^◌, ◌<◌, ◌≤◌, ◌||◌, nat_le, nat_lt, if◌then◌else◌, Bool, true, false, List, [], ◌∷◌, ◌++◌, length, Option, None, Some, Result, Ok, Err}
 use Rattle.pc_base.specs.declared.machine.Machine.{Ghosts}
 use Rattle.pc_log.specs.Area.{Head}
-use Rattle.pc_store.specs.declared.fault.CommitFault.{CommitFault}
-use Rattle.pc_store.specs.declared.fault.CommitFault.TheVariants.{Full, Device, Memory}
+use Rattle.pc_base.specs.declared.store_fault.CommitFault.{CommitFault}
+use Rattle.pc_base.specs.declared.store_fault.CommitFault.TheVariants.{Full, Device, Memory}
 use Rattle.pc_store.specs.History.{StandsFor}
 use Rattle.pc_store.specs.Store.{StoreState, next_number, trail_bytes}
 
 -- with an entry of so many bytes the store would pass a limit
 abbrev pub is_full : {M D E : Type 0} → Ghosts M E → StoreState M D E → ℕ → Bool
 is_full machine store count = nat_le 65536 (length store.trail) || nat_lt 16777216 (trail_bytes machine store.trail + count) || nat_le (2 ^ 63) (next_number store)
-
--- the store is called full exactly where it is; want of memory is free
-abbrev pub FullWhere : {T : Type 0} → Result T CommitFault → Bool → Type 0
-FullWhere (Ok value) full = full ≡ false
-FullWhere (Err Full) full = full ≡ true
-FullWhere (Err Device) full = full ≡ false
-FullWhere (Err Memory) full = Unit {0}
-
--- a device call failed
-abbrev pub OnDevice : {T : Type 0} → Result T CommitFault → Type 0 → Type 0
-OnDevice (Ok value) holds = Unit {0}
-OnDevice (Err Full) holds = Unit {0}
-OnDevice (Err Device) holds = holds
-OnDevice (Err Memory) holds = Unit {0}
-
--- memory was wanted
-abbrev pub OnMemory : {T : Type 0} → Result T CommitFault → Type 0 → Type 0
-OnMemory (Ok value) holds = Unit {0}
-OnMemory (Err Full) holds = Unit {0}
-OnMemory (Err Device) holds = Unit {0}
-OnMemory (Err Memory) holds = holds
 
 -- what becomes of the store but for its disk: the entry is made, and none is in doubt; or nothing
 -- changed; or the store is broken, and then no history has changed

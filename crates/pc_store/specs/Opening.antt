@@ -8,8 +8,8 @@ use Rattle.pc_log.specs.Area.{Head, is_made}
 use Rattle.pc_log.specs.Reading.{Reached, behind_head, head_of, next_of}
 use Rattle.pc_log.specs.Opening.{Reads}
 use Rattle.pc_store.specs.declared.fault.OpenFault.{OpenFault}
-use Rattle.pc_store.specs.declared.fault.StoreFault.{StoreFault}
-use Rattle.pc_store.specs.declared.fault.StoreFault.TheVariants.{NotMade, Device, Malformed, Memory}
+use Rattle.pc_base.specs.declared.store_fault.StoreFault.{StoreFault}
+use Rattle.pc_base.specs.declared.store_fault.StoreFault.TheVariants.{NotMade, Device, Malformed, Memory}
 use Rattle.pc_store.specs.History.{AreAllowed, IsBase, after, written_of}
 use Rattle.pc_store.specs.Store.{StoreState}
 

@@ -11,8 +11,8 @@ use Rattle.pc_log.specs.declared.fault.LogFault.TheVariants as log
 use Rattle.pc_log.specs.Area.{Head, IsEntry, IsHead, IsTrail, Spelled, bytes_of, entry_bytes, front}
 use Rattle.pc_log.specs.Reading.{OpeningState, Reached, behind, has_room, next_of}
 use Rattle.pc_log.specs.Opening.{Reads}
-use Rattle.pc_store.specs.declared.fault.StoreFault.{StoreFault}
-use Rattle.pc_store.specs.declared.fault.StoreFault.TheVariants.{NotMade, Device, Malformed, Memory}
+use Rattle.pc_base.specs.declared.store_fault.StoreFault.{StoreFault}
+use Rattle.pc_base.specs.declared.store_fault.StoreFault.TheVariants.{NotMade, Device, Malformed, Memory}
 use Rattle.pc_store.specs.declared.reading.ReadEntry.{ReadEntry}
 use Rattle.pc_store.specs.declared.reading.Entries.{Entries}
 use Rattle.pc_store.specs.declared.reading.History.{History}

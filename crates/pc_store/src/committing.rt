@@ -2,20 +2,20 @@
 
 ghost use Rattle.std.specs.Prelude.{◌≡◌, ◌⊎◌, ℕ, ◌+◌, ◌-◌, ◌<◌, ◌≤◌, true, false, List, ◌∷◌, length, OnOk, vec_len, vec_capacity};
 ghost use Rattle.pc_base.specs.Stream.{Rose};
+ghost use Rattle.pc_base.specs.CommitFault.{FullWhere, OnDevice, OnMemory};
 ghost use Rattle.pc_disk.specs.Images.{Images, other_of, InArea};
-ghost use Rattle.pc_disk.specs.Outcomes.{LeavesOnly, SameDue};
+ghost use Rattle.pc_disk.specs.Outcomes.{LeavesFirst, LeavesOnly, SameDue};
 ghost use Rattle.pc_disk.specs.StepFaults.{LeadsOn};
 ghost use Rattle.pc_log.specs.Area.{Head};
 ghost use Rattle.pc_log.specs.Logs.{IsPrepared, Stands};
 ghost use Rattle.pc_log.specs.Untouched.{Untouched};
 ghost use Rattle.pc_store.specs.History.{IsReplay};
 ghost use Rattle.pc_store.specs.Store.{Acknowledges, next_number};
-ghost use Rattle.pc_store.specs.Commit.{CommitCalls, CommitFailsWhereDue, CommitLeaves, FullWhere, OnDevice, OnMemory, StandsWithOrWithout, StandsWithout, doubt_after, is_full};
+ghost use Rattle.pc_store.specs.Commit.{CommitCalls, CommitFailsWhereDue, CommitLeaves, StandsWithOrWithout, StandsWithout, doubt_after, is_full};
 
-use crate::fault::CommitFault;
 use crate::reading::LAST_NUMBER;
 use crate::store::{MOST_BYTES, MOST_ENTRIES, Store};
-use pc_base::{Bytes, Machine, Memory};
+use pc_base::{Bytes, CommitFault, Machine, Memory};
 use pc_disk::Disk;
 use pc_log::Log;
 use std::alloc::Global;
@@ -34,19 +34,20 @@ impl<M: Machine, D: Disk + Drop> Store<M, D> {
         ensures full { FullWhere result (is_full M.Machine.own self.old (length (M.written entry))) }
         ensures acknowledged { D.tells → OnOk result (Acknowledges M.Machine.own D.seen D.may_leave self.new) }
 
-        // A crash at any moment leaves the history, with the entry as a whole or without it; and without it
-        // before the third device call.
+        // A crash at any moment leaves the history, with the entry as a whole or without it; and without it up
+        // to the second device call.
         ensures any_moment { D.tells → LeavesOnly D.moment D.left_since self.old.disk self.new.disk (LeadsOn (InArea 0 (StandsWithOrWithout M.Machine.own self.old.head self.old.trail entry)) (D.may_leave self.old.disk)) }
-        ensures early { D.tells → D.moment self.new.disk ≤ D.moment self.old.disk + 2 → LeavesOnly D.moment D.left_since self.old.disk self.new.disk (LeadsOn (InArea 0 (StandsWithout M.Machine.own self.old.head self.old.trail)) (D.may_leave self.old.disk)) }
+        ensures first_two { D.tells → LeavesFirst D.moment D.left_since 2 self.old.disk self.new.disk (LeadsOn (InArea 0 (StandsWithout M.Machine.own self.old.head self.old.trail)) (D.may_leave self.old.disk)) (LeadsOn (InArea 0 (StandsWithOrWithout M.Machine.own self.old.head self.old.trail entry)) (D.may_leave self.old.disk)) }
         ensures other_area { D.tells → other_of 0 (D.seen self.new.disk) ≡ other_of 0 (D.seen self.old.disk) }
 
-        ensures memory { OnMemory result (Untouched D.tells D.tells_due D.seen D.may_leave D.left_since D.moment D.due D.faults D.spare_calls D.spare_bytes self.old.disk self.new.disk) }
+        ensures memory { OnMemory result (Untouched D.Disk.own self.old.disk self.new.disk) }
         ensures calls { CommitCalls result (D.moment self.old.disk) (D.moment self.new.disk) }
         ensures doubt { OnDevice result (self.new.doubt ≡ doubt_after entry (D.moment self.new.disk - D.moment self.old.disk)) }
         ensures due { D.tells_due → CommitFailsWhereDue result (D.moment self.old.disk) (D.moment self.new.disk) (D.due self.old.disk) }
         ensures ahead { D.tells_due → SameDue (D.moment self.new.disk) (D.due self.old.disk) (D.due self.new.disk) }
         ensures faults { D.faults self.old.disk ≤ D.faults self.new.disk }
         ensures cause { OnDevice result (Rose (D.faults self.old.disk) (D.faults self.new.disk)) }
+        ensures taken { D.taken self.new.disk ≡ D.taken self.old.disk }
     {
         prove!(!self.is_broken);
         let mut bytes = Bytes::new(alloc);
@@ -69,15 +70,16 @@ impl<M: Machine, D: Disk + Drop> Store<M, D> {
         ensures full { FullWhere result false }
         ensures acknowledged { D.tells → OnOk result (Acknowledges M.Machine.own D.seen D.may_leave self.new) }
         ensures any_moment { D.tells → LeavesOnly D.moment D.left_since self.old.disk self.new.disk (LeadsOn (InArea 0 (StandsWithOrWithout M.Machine.own self.old.head self.old.trail entry)) (D.may_leave self.old.disk)) }
-        ensures early { D.tells → D.moment self.new.disk ≤ D.moment self.old.disk + 2 → LeavesOnly D.moment D.left_since self.old.disk self.new.disk (LeadsOn (InArea 0 (StandsWithout M.Machine.own self.old.head self.old.trail)) (D.may_leave self.old.disk)) }
+        ensures first_two { D.tells → LeavesFirst D.moment D.left_since 2 self.old.disk self.new.disk (LeadsOn (InArea 0 (StandsWithout M.Machine.own self.old.head self.old.trail)) (D.may_leave self.old.disk)) (LeadsOn (InArea 0 (StandsWithOrWithout M.Machine.own self.old.head self.old.trail entry)) (D.may_leave self.old.disk)) }
         ensures other_area { D.tells → other_of 0 (D.seen self.new.disk) ≡ other_of 0 (D.seen self.old.disk) }
-        ensures memory { OnMemory result (Untouched D.tells D.tells_due D.seen D.may_leave D.left_since D.moment D.due D.faults D.spare_calls D.spare_bytes self.old.disk self.new.disk) }
+        ensures memory { OnMemory result (Untouched D.Disk.own self.old.disk self.new.disk) }
         ensures calls { CommitCalls result (D.moment self.old.disk) (D.moment self.new.disk) }
         ensures doubt { OnDevice result (self.new.doubt ≡ doubt_after entry (D.moment self.new.disk - D.moment self.old.disk)) }
         ensures due { D.tells_due → CommitFailsWhereDue result (D.moment self.old.disk) (D.moment self.new.disk) (D.due self.old.disk) }
         ensures ahead { D.tells_due → SameDue (D.moment self.new.disk) (D.due self.old.disk) (D.due self.new.disk) }
         ensures faults { D.faults self.old.disk ≤ D.faults self.new.disk }
         ensures cause { OnDevice result (Rose (D.faults self.old.disk) (D.faults self.new.disk)) }
+        ensures taken { D.taken self.new.disk ≡ D.taken self.old.disk }
     {
         let number = self.next();
         let size = bytes.as_slice().len() as u32;
@@ -119,7 +121,8 @@ fn make_room<E, D: Disk>(
     ensures room { OnOk result (vec_len trail.new < vec_capacity trail.new) }
     ensures items { trail.new.items ≡ trail.old.items }
     ensures stands { D.tells → (head : Head) (entries : List (List ℕ)) → Stands log.now head entries (D.seen disk.old) (D.may_leave disk.old) → Stands log.now head entries (D.seen disk.new) (D.may_leave disk.new) }
-    ensures untouched { Untouched D.tells D.tells_due D.seen D.may_leave D.left_since D.moment D.due D.faults D.spare_calls D.spare_bytes disk.old disk.new }
+    ensures untouched { Untouched D.Disk.own disk.old disk.new }
+    ensures taken { D.taken disk.new ≡ D.taken disk.old }
 {
     trail.reserve(1)?;
     log.prepare(disk, size)

@@ -7,7 +7,7 @@ mod making;
 mod reading;
 mod store;
 
-pub use fault::{CommitFault, OpenFault, StoreFault};
+pub use fault::OpenFault;
 pub use store::Store;
 
 #[cfg(test)]

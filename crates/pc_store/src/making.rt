@@ -1,6 +1,6 @@
 //! Making a store.
 
-ghost use Rattle.std.specs.Prelude.{◌≡◌, ◌⊎◌, ℕ, ◌<◌, ◌≤◌, false, [], IfOk, IfErr, OnOk};
+ghost use Rattle.std.specs.Prelude.{◌≡◌, ◌⊎◌, ℕ, ◌+◌, ◌<◌, ◌≤◌, false, [], IfOk, IfErr, OnOk};
 ghost use Rattle.pc_base.specs.Stream.{Rose};
 ghost use Rattle.pc_disk.specs.Images.{area_of, with_area};
 ghost use Rattle.pc_disk.specs.Outcomes.{LeavesOnly, SameDue};
@@ -8,9 +8,8 @@ ghost use Rattle.pc_log.specs.Area.{fresh, is_made};
 ghost use Rattle.pc_store.specs.Opening.{IsOutside, MakesWhereDue, MakingCalls, OnDevice, WhileMade};
 ghost use Rattle.pc_store.specs.Reading.{HoldsSettled};
 
-use crate::fault::StoreFault;
 use crate::reading::{AREA, History, in_area, settle};
-use pc_base::{Bytes, Machine};
+use pc_base::{Bytes, Machine, StoreFault};
 use pc_disk::Disk;
 use pc_log::Log;
 use std::alloc::Global;
@@ -36,6 +35,7 @@ pub(crate) fn make<M: Machine, D: Disk>(
     ensures calls { D.tells → MakingCalls result (area_of 0 (D.seen disk.old)) (D.moment disk.old) (D.moment disk.new) }
     ensures due { D.tells_due → MakesWhereDue result (D.moment disk.old) (D.moment disk.new) (D.due disk.old) (D.taken disk.old) }
     ensures ahead { D.tells_due → SameDue (D.moment disk.new) (D.due disk.old) (D.due disk.new) }
+    ensures taken { D.taken disk.new ≤ D.taken disk.old + 1 }
     ensures any_moment { D.tells → LeavesOnly D.moment D.left_since disk.old disk.new (WhileMade (record { kind = M.KIND; generation = 1; first = 1; base = M.saved M.begin }) (D.seen disk.old) (D.may_leave disk.old)) }
 {
     let mut state = M::empty(alloc)?;

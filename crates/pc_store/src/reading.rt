@@ -9,11 +9,10 @@ ghost use Rattle.pc_log.specs.Area.{Head, is_made};
 ghost use Rattle.pc_log.specs.Untouched.{Untouched};
 ghost use Rattle.pc_store.specs.History.{IsReplay, StandsFor};
 ghost use Rattle.pc_store.specs.Opening.{DueOrTaken, FailsWhereDue, FirstFault, OnDevice, IsFaultOf, IsOutside, RefusesAs, SyncsOnce};
-ghost use Rattle.pc_store.specs.declared.fault.StoreFault.TheVariants as store;
+ghost use Rattle.pc_base.specs.declared.store_fault.StoreFault.TheVariants as store;
 ghost use Rattle.pc_store.specs.Reading.{of_log, of_read, limited_fault, FaultFits, NextIs, EntriesAre, LoadsBase, BaseFault, MakesEntry, FindsHistory, HoldsHistory, HoldsSettled, head_of_history};
 
-use crate::fault::StoreFault;
-use pc_base::{Bytes, Machine, ReadFault};
+use pc_base::{Bytes, Machine, ReadFault, StoreFault};
 use pc_disk::Disk;
 use pc_log::{Log, LogFault, Opening, PlacedEntry, Start};
 use std::alloc::Global;
@@ -79,6 +78,7 @@ pub(crate) fn read_settled<M: Machine, D: Disk>(
     ensures due { D.tells_due → FailsWhereDue result (D.due disk.old (D.moment disk.old)) (DueOrTaken (D.due disk.old) (D.moment disk.old + 1) (D.taken disk.old) (2 ^ 31)) }
     ensures ahead { D.tells_due → SameDue (D.moment disk.new) (D.due disk.old) (D.due disk.new) }
     ensures taken { IfOk result (λ history. D.taken disk.new ≤ D.taken disk.old + history.log.gate + 5) }
+    ensures most_taken { D.taken disk.new ≤ D.taken disk.old + 2 ^ 31 }
     ensures any_moment { D.tells → LeavesOnly D.moment D.left_since disk.old disk.new (D.may_leave disk.old) }
 {
     settle(disk)?;
@@ -113,10 +113,11 @@ pub(crate) fn read_history<M: Machine, D: Disk>(
 ) -> Result<History<M>, StoreFault>
     ensures found { IfOk result (λ history. HoldsHistory M.Machine.own D.tells (area_of 0 (D.seen disk.old)) history) }
     ensures fault { D.tells → IfErr result (IsFaultOf M.Machine.own (area_of 0 (D.seen disk.old))) }
-    ensures untouched { Untouched D.tells D.tells_due D.seen D.may_leave D.left_since D.moment D.due D.faults D.spare_calls D.spare_bytes disk.old disk.new }
+    ensures untouched { Untouched D.Disk.own disk.old disk.new }
     ensures cause { OnDevice result (Rose (D.faults disk.old) (D.faults disk.new)) }
     ensures due { D.tells_due → OnDevice result (DueOrTaken (D.due disk.old) (D.moment disk.old) (D.taken disk.old) (2 ^ 31)) }
     ensures taken { IfOk result (λ history. D.taken disk.new ≤ D.taken disk.old + history.log.gate + 5) }
+    ensures most_taken { D.taken disk.new ≤ D.taken disk.old + 2 ^ 31 }
 {
     let start = match Opening::start(alloc, disk, AREA, M::KIND) {
         Ok(start) => start,
@@ -184,10 +185,11 @@ fn read_entries<M: Machine, D: Disk>(
     requires numbered { IsNumbered (M.next state.old) first }
     requires legal { M.is_legal state.old }
     ensures entries { EntriesAre M.Machine.own D.tells (area_of 0 (D.seen disk.old)) opening.old opening.new state.old state.new first result }
-    ensures untouched { Untouched D.tells D.tells_due D.seen D.may_leave D.left_since D.moment D.due D.faults D.spare_calls D.spare_bytes disk.old disk.new }
+    ensures untouched { Untouched D.Disk.own disk.old disk.new }
     ensures cause { OnDevice result (Rose (D.faults disk.old) (D.faults disk.new)) }
     ensures due { D.tells_due → OnDevice result (DueOrTaken (D.due disk.old) (D.moment disk.old) (D.taken disk.old) 33554432) }
     ensures taken { OnOk result (D.taken disk.new + opening.old.reached.gate ≤ D.taken disk.old + opening.new.reached.gate + 5) }
+    ensures most_taken { D.taken disk.new ≤ D.taken disk.old + 33554432 }
 {
     let mut gate = gate;
     let mut number = first;
@@ -218,11 +220,12 @@ fn next_entry<M: Machine, D: Disk>(
     requires area { opening.old.area ≡ 0 }
     requires numbered { IsNumbered (M.next state.old) number }
     ensures next { NextIs M.Machine.own D.tells (area_of 0 (D.seen disk.old)) opening.old opening.new state.old state.new number result }
-    ensures untouched { Untouched D.tells D.tells_due D.seen D.may_leave D.left_since D.moment D.due D.faults D.spare_calls D.spare_bytes disk.old disk.new }
+    ensures untouched { Untouched D.Disk.own disk.old disk.new }
     ensures cause { OnDevice result (Rose (D.faults disk.old) (D.faults disk.new)) }
     ensures due { D.tells_due → OnDevice result (DueOrTaken (D.due disk.old) (D.moment disk.old) (D.taken disk.old) 8388613) }
     ensures taken { IfOk result (λ next. IfSome next (λ _. D.taken disk.new + opening.old.reached.gate ≤ D.taken disk.old + opening.new.reached.gate)) }
     ensures taken_at_last { OnOk result (D.taken disk.new + opening.old.reached.gate ≤ D.taken disk.old + opening.new.reached.gate + 5) }
+    ensures most_taken { D.taken disk.new ≤ D.taken disk.old + 8388613 }
 {
     let next = match opening.next(alloc, disk) {
         Ok(next) => next,

@@ -12,12 +12,12 @@ ghost use Rattle.pc_store.specs.History.{IsReplay, StandsFor, written_of};
 ghost use Rattle.pc_store.specs.Store.{Acknowledges, OpensInDoubt, SameHistory, next_number, room_of};
 ghost use Rattle.pc_store.specs.Reading.{HoldsSettled, head_of_history};
 ghost use Rattle.pc_store.specs.Opening.{DueOrTaken, FailsWhereDue, FirstFault, IsFaultOf, IsOutside, IfDevice, MakesWhereDue, MakingCalls, OnDevice, OnDisk, OpensAs, RefusesAs, SyncsOnce, WhileMade, answer_of};
-ghost use Rattle.pc_store.specs.declared.fault.StoreFault.TheVariants as store;
+ghost use Rattle.pc_base.specs.declared.store_fault.StoreFault.TheVariants as store;
 
-use crate::fault::{OpenFault, StoreFault};
+use crate::fault::OpenFault;
 use crate::making::make;
 use crate::reading::{History, LAST_NUMBER, read_settled};
-use pc_base::{Bytes, Machine, Room};
+use pc_base::{Bytes, Machine, Room, StoreFault};
 use pc_disk::{Choice, Disk, MemoryDisk};
 use pc_log::Log;
 use std::alloc::Global;
@@ -76,6 +76,9 @@ impl<M: Machine, D: Disk + Drop> Store<M, D> {
         ensures due { D.tells_due → OnDisk result (λ now. MakesWhereDue (answer_of result) (D.moment disk) (D.moment now) (D.due disk) (D.taken disk)) }
         ensures ahead { D.tells_due → OnDisk result (λ now. SameDue (D.moment now) (D.due disk) (D.due now)) }
 
+        // It reads a byte.
+        ensures taken { OnDisk result (λ now. D.taken now ≤ D.taken disk + 1) }
+
         // A crash at any moment leaves what it might have left, or an area that isn't made, or the new one.
         ensures any_moment { D.tells → OnDisk result (λ now. LeavesOnly D.moment D.left_since disk now (WhileMade (record { kind = M.KIND; generation = 1; first = 1; base = M.saved M.begin }) (D.seen disk) (D.may_leave disk))) }
     {
@@ -109,8 +112,10 @@ impl<M: Machine, D: Disk + Drop> Store<M, D> {
         ensures due { D.tells_due → FailsWhereDue (answer_of result) (D.due disk (D.moment disk)) (DueOrTaken (D.due disk) (D.moment disk + 1) (D.taken disk) (2 ^ 31)) }
         ensures ahead { D.tells_due → OnDisk result (λ now. SameDue (D.moment now) (D.due disk) (D.due now)) }
 
-        // It reads little more than the base and the entries.
+        // It reads little more than the base and the entries; and where it is refused no more than the longest
+        // area has.
         ensures taken { IfOk result (λ store. D.taken store.disk ≤ D.taken disk + length (front store.head (written_of M.Machine.own store.trail)) + 5) }
+        ensures most_taken { OnDisk result (λ now. D.taken now ≤ D.taken disk + 2 ^ 31) }
 
         // The disk reads as before, and a crash at any moment leaves what it might have left.
         ensures seen { D.tells → OnDisk result (λ now. D.seen now ≡ D.seen disk) }
@@ -140,8 +145,10 @@ impl<M: Machine, D: Disk + Drop> Store<M, D> {
         ensures due { D.tells_due → FailsWhereDue result (D.due self.old.disk (D.moment self.old.disk)) (DueOrTaken (D.due self.old.disk) (D.moment self.old.disk + 1) (D.taken self.old.disk) (2 ^ 31)) }
         ensures ahead { D.tells_due → SameDue (D.moment self.new.disk) (D.due self.old.disk) (D.due self.new.disk) }
 
-        // It reads little more than the base and the entries.
+        // It reads little more than the base and the entries; and where it is refused no more than the longest
+        // area has.
         ensures taken { OnOk result (D.taken self.new.disk ≤ D.taken self.old.disk + length (front self.new.head (written_of M.Machine.own self.new.trail)) + 5) }
+        ensures most_taken { D.taken self.new.disk ≤ D.taken self.old.disk + 2 ^ 31 }
 
         // The disk reads as before, and a crash at any moment leaves what it might have left.
         ensures seen { D.tells → D.seen self.new.disk ≡ D.seen self.old.disk }

@@ -4,8 +4,8 @@
 use super::accounts::{first_entries, make};
 use super::stores::{Aftermath, after_failure, after_stop};
 use pc_account::Account;
+use pc_base::CommitFault;
 use pc_disk::Choice;
-use pc_store::CommitFault;
 use std::test::Fail;
 
 #[test]

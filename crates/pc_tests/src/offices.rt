@@ -2,11 +2,10 @@
 //! expected answers are worked out by hand.
 
 use super::stores::{after_stop, area_of};
-use pc_base::{Lines, Name, Names};
+use pc_base::{CommitFault, Lines, Name, Names};
 use pc_disk::Choice;
 use pc_message::Message;
 use pc_office::{Office, OfficeEntry};
-use pc_store::CommitFault;
 use std::alloc::Global;
 use std::test::Fail;
 
@@ -48,6 +47,7 @@ fn an_office_byte_for_byte(rt: HostRuntime) -> Result<(), Fail> {
 #[test]
 fn an_office_stopped_at_each_call(rt: HostRuntime) -> Result<(), Fail> {
     let rows = [
+        (1, Choice::Lose, Err(CommitFault::Device), 2),
         (2, Choice::Keep, Err(CommitFault::Device), 2),
         (3, Choice::Lose, Err(CommitFault::Device), 2),
         (3, Choice::Keep, Err(CommitFault::Device), 3),

@@ -4,7 +4,7 @@
 use super::accounts::{AREA, first_entries};
 use super::stores::{area_of, found_in};
 use pc_account::Account;
-use pc_store::StoreFault;
+use pc_base::StoreFault;
 use std::test::Fail;
 
 #[test]

@@ -1,8 +1,8 @@
 //! Stores over disks in memory, of any machine: each function is proved from what every machine keeps.
 
-use pc_base::Machine;
+use pc_base::{CommitFault, Machine, StoreFault};
 use pc_disk::{Choice, Disk, MemoryDisk};
-use pc_store::{CommitFault, OpenFault, Store, StoreFault};
+use pc_store::{OpenFault, Store};
 use std::alloc::Global;
 use std::test::Fail;
 

@@ -5,9 +5,9 @@ use Rattle.std.proofs.Math.Seq.{take-append_seam}
 use Rattle.std.proofs.lemmas.Bool.{false≢true}
 use Rattle.std.specs.Option.{option_to_list}
 use Rattle.pc_base.specs.declared.failure.Memory.{Memory}
-use Rattle.pc_history.specs.Table.{same}
-use Rattle.pc_history.specs.declared.entry.Entry.{Entry}
-use Rattle.pc_history.proofs.Tables.{same-true}
+use Rattle.pc_tables.specs.Table.{same}
+use Rattle.pc_account_history.specs.declared.entry.Entry.{Entry}
+use Rattle.pc_tables.proofs.Table.{same-true}
 use Rattle.pc_world.specs.Account.{Account, history_of}
 use Rattle.pc_world.specs.Repository.{reply_to}
 use Rattle.pc_world.specs.Steps.{Answers, Prints, Step, entries_of, place_in, printed_reply, with_entries}

@@ -2,14 +2,14 @@
 use Rattle.std.proofs.Common.{◌≡◌, ℕ, suc, ◌+◌, List, [], ◌∷◌, ◌++◌, length, Option, Result, Ok, Err, refl, sym, ap, ◌∙◌, subst, arith}
 use Rattle.std.specs.Option.{option_to_list}
 use Rattle.pc_base.specs.declared.refusal.Refusal.{Refusal}
-use Rattle.pc_history.specs.declared.entry.Entry.{Entry}
-use Rattle.pc_history.specs.History.{History, ◌▸◌, ◌▸▸◌, new_account, known, next}
-use Rattle.pc_holdings.specs.State.{State, StandsFor}
-use Rattle.pc_account.specs.Answers.{Tells}
+use Rattle.pc_account_history.specs.declared.entry.Entry.{Entry}
+use Rattle.pc_account_history.specs.History.{History, ◌▸◌, ◌▸▸◌, new_account, known, next}
+use Rattle.pc_account_holdings.specs.State.{State, StandsFor}
 use Rattle.pc_account.specs.Plan.{planned}
 use Rattle.pc_account.specs.declared.wish.Wish.{Wish}
-use Rattle.pc_account.specs.declared.wish.AskFault.{AskFault}
-use Rattle.pc_account.specs.declared.wish.AskFault.TheVariants.{Refused, Memory}
+use Rattle.pc_base.specs.declared.ask_fault.AskFault.{AskFault}
+use Rattle.pc_base.specs.declared.ask_fault.AskFault.TheVariants.{Refused, Memory}
+use Rattle.pc_base.specs.AskFault.{Tells}
 use Rattle.pc_world.specs.Account.{Account, history_of}
 use Rattle.pc_world.specs.Changes.{Changes}
 

@@ -9,6 +9,7 @@ pub mod OfForm
 pub mod OneEvent
 pub mod OneOutcome
 pub mod OneStep
+pub mod Outcomes
 pub mod Playing
 mod Samples
 pub mod Stopped

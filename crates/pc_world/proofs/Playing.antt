@@ -160,15 +160,17 @@ front_written (Some bytes) ahead (Some left) (Some left') before after after' wo
           played.told.split ∙ ap (λ (xs : List ℕ). played.told.played ++ xs) unread ∙ moved played.told.played ahead read left',
           Appends-trans before after after' played.out (take shown pending) played.appended sent,
           record {
-            rest = lines_of (ahead ++ read);
+            rest = lines_of (ahead ++ left);
             printed = played.printed;
             last = world;
             begins = record {
               events = played.events;
-              split = played.told.leads (ahead ++ read) left' (unread ∙ sym (append_assoc ahead read left'));
+              split = HasPlayed-lines played.events bytes (ahead ++ left) played.told;
               few = rw played.counted played.few;
               chain = played.chain;
             };
+            unplayed = lines_of (ahead ++ read);
+            whole = played.told.leads (ahead ++ read) left' (unread ∙ sym (append_assoc ahead read left'));
             more = drop shown pending;
             text_is = append_assoc played.out (take shown pending) (drop shown pending) ∙ ap (λ (text : List ℕ). played.out ++ text) (take-append-drop shown pending) ∙ played.text;
           },

@@ -8,7 +8,7 @@ use Rattle.pc_request.specs.Operation.{operations, word_of}
 use Rattle.pc_request.specs.Request.{call_of}
 use Rattle.pc_request.specs.declared.request.Request.TheVariants as request
 use Rattle.pc_request.specs.declared.request.RequestFault.TheVariants.{BadName}
-use Rattle.pc_history.specs.declared.entry.Entry.TheVariants.{MakeMailbox}
+use Rattle.pc_account_history.specs.declared.entry.Entry.TheVariants.{MakeMailbox}
 use Rattle.pc_world.proofs.Chains.{plays_first}
 use Rattle.pc_world.specs.Account.{Account}
 use Rattle.pc_world.specs.Events.{IsEvent}

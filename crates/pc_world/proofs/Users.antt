@@ -7,9 +7,9 @@ use borrow.Author.Tests.{ltb-true}
 use Rattle.pc_base.specs.declared.refusal.LimitWord.TheVariants.{Users}
 use Rattle.pc_base.specs.declared.refusal.Refusal.{Refusal}
 use Rattle.pc_base.specs.declared.refusal.Refusal.TheVariants.{AddressTaken, LimitReached}
-use Rattle.pc_history.specs.Table.{same}
-use Rattle.pc_history.specs.declared.entry.Entry.{Entry}
-use Rattle.pc_history.proofs.Tables.{some-none, some-same}
+use Rattle.pc_tables.specs.Table.{same}
+use Rattle.pc_account_history.specs.declared.entry.Entry.{Entry}
+use Rattle.pc_tables.proofs.Options.{some-none, some-same}
 use Rattle.pc_world.specs.Account.{Account}
 use Rattle.pc_world.specs.Steps.{enrol_refusal, entries_of, most_users, place_in, with_entries}
 

@@ -2,9 +2,9 @@
 use Rattle.std.specs.Prelude.{◌≡◌, ⊤, List, ◌++◌, Option, Result, Ok, Err}
 use Rattle.std.specs.Option.{option_to_list}
 use Rattle.pc_base.specs.declared.refusal.Refusal.{Refusal}
-use Rattle.pc_history.specs.declared.entry.Entry.{Entry}
-use Rattle.pc_account.specs.declared.wish.AskFault.{AskFault}
-use Rattle.pc_account.specs.declared.wish.AskFault.TheVariants.{Refused, Memory}
+use Rattle.pc_account_history.specs.declared.entry.Entry.{Entry}
+use Rattle.pc_base.specs.declared.ask_fault.AskFault.{AskFault}
+use Rattle.pc_base.specs.declared.ask_fault.AskFault.TheVariants.{Refused, Memory}
 
 -- the entry of the plan is kept, where it has one; or its refusal is told, and nothing is kept; or memory was wanted
 abbrev pub Changes : List Entry → List Entry → Result (Option Entry) Refusal → Result Unit AskFault → Type 0

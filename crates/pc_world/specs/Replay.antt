@@ -55,10 +55,10 @@ Finishes before after faults faults' text end result =
 abbrev pub Writes : Option (List ℕ) → Option (List ℕ) → Option (List ℕ) → (List ℕ → List ℕ → Type 0) → Type 0
 Writes script before after Fact = IfSome script (λ bytes. (text : List ℕ) × (Appends before after text × Fact bytes text))
 
--- the bytes appended to the output are a front of what the events print in the front of the script that was read, where the input tells it
+-- the bytes appended to the output are a front of what the script's events print that were read, where the input tells it
 abbrev pub WritesFront : Option (List ℕ) → Option (List ℕ) → Option (List ℕ) → Option (List ℕ) → Type 0
 WritesFront script left before after =
-    IfTold script left (λ bytes rest. (read : List ℕ) × ((text : List ℕ) × ((bytes ≡ read ++ rest) × Appends before after text × IsFront read text)))
+    IfTold script left (λ bytes rest. (read : List ℕ) × ((text : List ℕ) × ((bytes ≡ read ++ rest) × Appends before after text × IsFront bytes read text)))
 
 -- the input from `script` to `left` and the output from `before` to `after`, by how the replay ended
 abbrev pub Ends : Option (List ℕ) → Option (List ℕ) → Option (List ℕ) → Option (List ℕ) → ReplayEnd → Type 0

@@ -7,8 +7,8 @@ use Rattle.pc_request.specs.declared.request.Request.{Request}
 use Rattle.pc_request.specs.declared.request.Request.TheVariants as request
 use Rattle.pc_request.specs.declared.request.RequestFault.{RequestFault}
 use Rattle.pc_request.specs.declared.request.RequestFault.TheVariants as fault
-use Rattle.pc_history.specs.declared.entry.Entry.{Entry}
-use Rattle.pc_history.specs.History.{History, known}
+use Rattle.pc_account_history.specs.declared.entry.Entry.{Entry}
+use Rattle.pc_account_history.specs.History.{History, known}
 use Rattle.pc_account.specs.Answers.{answered}
 use Rattle.pc_account.specs.Plan.{planned}
 use Rattle.pc_account.specs.declared.answer.Answer.{Answer}

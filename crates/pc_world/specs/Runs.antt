@@ -75,11 +75,13 @@ pub record IsRefused (script : List ℕ) (number : ℕ) (text : List ℕ) : Type
   pub text_is : text ≡ text_of printed
   pub stops : number ≤ most_lines → GoesOn last (line ∷ rest) → ⊥
 
--- the text is a front of what events of the script print
-pub record IsFront (script text : List ℕ) : Type 0 where
+-- the text is a front of what events print that the script begins with; what was read of it begins with the same lines, so none of them is cut
+pub record IsFront (script read text : List ℕ) : Type 0 where
   pub rest : List (List ℕ)
   pub printed : List (List ℕ)
   pub last : List Account
   pub begins : Begins script rest printed last
+  pub unplayed : List (List ℕ)
+  pub whole : lines_of read ≡ lines_in begins.events ++ unplayed
   pub more : List ℕ
   pub text_is : text ++ more ≡ text_of printed

@@ -7,10 +7,10 @@ use Rattle.pc_base.specs.Refusal.{head_of}
 use Rattle.pc_base.specs.declared.refusal.LimitWord.TheVariants.{Users}
 use Rattle.pc_base.specs.declared.refusal.Refusal.{Refusal}
 use Rattle.pc_base.specs.declared.refusal.Refusal.TheVariants.{AddressTaken, LimitReached}
-use Rattle.pc_history.specs.Allowed.{inbox}
-use Rattle.pc_history.specs.Table.{same}
-use Rattle.pc_history.specs.declared.entry.Entry.{Entry}
-use Rattle.pc_history.specs.declared.entry.Entry.TheVariants.{MakeMailbox, Password}
+use Rattle.pc_base.specs.Name.{inbox}
+use Rattle.pc_tables.specs.Table.{same}
+use Rattle.pc_account_history.specs.declared.entry.Entry.{Entry}
+use Rattle.pc_account_history.specs.declared.entry.Entry.TheVariants.{MakeMailbox, Password}
 use Rattle.pc_world.specs.declared.event.Event.{Event}
 use Rattle.pc_world.specs.declared.event.Event.TheVariants.{Silent, User, Ask}
 use Rattle.pc_world.specs.Account.{Account, history_of}

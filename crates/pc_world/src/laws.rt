@@ -1,13 +1,13 @@
 //! What holds of all scripts: each law is what a function with nothing to do ensures.
 
-ghost use Rattle.std.specs.Prelude.{◌≡◌, ℕ, List};
+ghost use Rattle.std.specs.Prelude.{◌≡◌, ℕ, List, ◌⊎◌};
 ghost use Rattle.pc_world.specs.Account.{Account};
 ghost use Rattle.pc_world.specs.Events.{IsEvent};
 ghost use Rattle.pc_world.specs.Runs.{IsOfForm, IsRefused, IsRun};
 ghost use Rattle.pc_world.specs.Steps.{Step};
 ghost use Rattle.pc_world.specs.declared.event.Event.{Event};
 
-use pc_request::laws::{one_request_a_line, requests_have_no_fault};
+use pc_request::laws::{faultless_lines_are_requests, one_request_a_line, requests_have_no_fault};
 
 /// Lines are at most one event.
 pub fn one_event_a_line()
@@ -57,6 +57,15 @@ pub fn forms_have_runs()
 pub fn runs_have_the_form()
     ensures { (script t : List ℕ) → IsRun script t → IsOfForm script }
 {
+    one_event_a_line();
+    one_step_an_event();
+}
+
+/// A script is of the form, or is refused at a line.
+pub fn form_or_refused()
+    ensures { (script : List ℕ) → IsOfForm script ⊎ ((number : ℕ) × ((text : List ℕ) × IsRefused script number text)) }
+{
+    faultless_lines_are_requests();
     one_event_a_line();
     one_step_an_event();
 }

@@ -15,3 +15,6 @@ pub use event::{Asked, Event, EventFault};
 pub use reading::read_event;
 pub use replaying::{ReplayEnd, replay};
 pub use world::World;
+
+#[cfg(test)]
+mod tests;

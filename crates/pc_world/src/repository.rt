@@ -3,8 +3,8 @@
 ghost use Rattle.std.specs.Prelude.{◌≡◌, ℕ, ◌≤◌, ◌++◌, List, length, OnOk, OnErr};
 ghost use Rattle.std.specs.Option.{option_to_list};
 ghost use Rattle.pc_base.specs.Refusal.{head_of};
-ghost use Rattle.pc_history.specs.History.{known};
-ghost use Rattle.pc_history.specs.Known.{Known};
+ghost use Rattle.pc_account_history.specs.History.{known};
+ghost use Rattle.pc_account_history.specs.Known.{Known};
 ghost use Rattle.pc_account.specs.Answers.{answered};
 ghost use Rattle.pc_account.specs.Plan.{IsWish, planned};
 ghost use Rattle.pc_account.specs.declared.answer.Question.TheVariants as question;
@@ -20,8 +20,8 @@ use crate::event::Asked;
 use crate::reading::{MOST_REQUEST, behind};
 use crate::transcript::Transcript;
 use crate::user::User;
-use pc_account::{Answer, AskFault, Question, Wish};
-use pc_base::{Memory, Name, Refusal};
+use pc_account::{Answer, Question, Wish};
+use pc_base::{AskFault, Memory, Name, Refusal};
 use pc_request::{Operation, Request, RequestFault, no_arguments, one_name};
 use std::alloc::Global;
 

@@ -1,20 +1,21 @@
 //! A user of a world.
 
 ghost use Rattle.std.specs.Prelude.{◌≡◌, ◌++◌, [], ◌∷◌, IsTrue, IfOk, OnOk};
-ghost use Rattle.pc_history.specs.Allowed.{is_mailbox};
-ghost use Rattle.pc_history.specs.History.{known};
-ghost use Rattle.pc_history.specs.Known.{Known};
-ghost use Rattle.pc_history.specs.Table.{same};
-ghost use Rattle.pc_account.specs.Answers.{Tells, answered};
+ghost use Rattle.pc_base.specs.AskFault.{Tells};
+ghost use Rattle.pc_account_history.specs.Allowed.{is_mailbox};
+ghost use Rattle.pc_account_history.specs.History.{known};
+ghost use Rattle.pc_account_history.specs.Known.{Known};
+ghost use Rattle.pc_tables.specs.Table.{same};
+ghost use Rattle.pc_account.specs.Answers.{answered};
 ghost use Rattle.pc_account.specs.Plan.{IsWish, planned};
-ghost use Rattle.pc_holdings.specs.State.{StandsFor, may_follow, said, step};
+ghost use Rattle.pc_account_holdings.specs.State.{StandsFor, may_follow, said, step};
 ghost use Rattle.pc_world.specs.Account.{history_of};
 ghost use Rattle.pc_world.specs.Changes.{Changes};
 ghost use Rattle.pc_world.specs.Heading.{heading_of};
 ghost use Rattle.pc_world.specs.Steps.{enrolled};
 
-use pc_account::{Account, Answer, AskFault, Entry, Question, Wish, digest};
-use pc_base::{Memory, Name, Password};
+use pc_account::{Account, Answer, Entry, Question, Wish, digest};
+use pc_base::{AskFault, Memory, Name, Password};
 use std::alloc::Global;
 use std::marker::Model;
 
@@ -31,7 +32,7 @@ pub(crate) struct User {
 
 impl Model for User {
     ghost use Rattle.std.specs.Prelude.{◌≡◌};
-    ghost use Rattle.pc_holdings.specs.State.{StandsFor};
+    ghost use Rattle.pc_account_holdings.specs.State.{StandsFor};
     ghost use Rattle.pc_world.specs.Account.{Account as Kept, history_of};
     ghost use Rattle.pc_world.specs.Heading.{heading_of};
 
@@ -52,7 +53,7 @@ impl User {
         let digest = digest(name, password);
         let password = Entry::Password { digest };
         keep(alloc, &mut account, &mut entries, password)?;
-        let mailbox = Name::read(b"inbox").unwrap();
+        let mailbox = Name::inbox();
         let inbox = Entry::MakeMailbox { mailbox };
         keep(alloc, &mut account, &mut entries, inbox)?;
         let heading = heading(alloc, name)?;

@@ -3,8 +3,8 @@
 ghost use Rattle.std.specs.Prelude.{◌<◌, ◌≤◌, ◌^◌};
 
 use crate::{Account, Entry};
+use pc_account_spelling::fits;
 use pc_base::{Bytes, Machine, Memory, Name};
-use pc_spelling::fits;
 use std::alloc::Global;
 use std::test::Fail;
 

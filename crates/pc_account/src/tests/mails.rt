@@ -4,8 +4,7 @@ ghost use Rattle.std.specs.Prelude.{IsTrue};
 ghost use Rattle.pc_account.specs.Plan.{NumbersRise};
 
 use super::words::{message, name, number};
-use pc_history::LAST_MAIL;
-use pc_message::{Mail, Mails};
+use pc_message::{LAST_MAIL, Mail, Mails};
 use std::alloc::Global;
 use std::test::Fail;
 

@@ -1,6 +1,6 @@
 //! An account that is told in words what to do, so that a test is a table of lines and answers.
 
-ghost use Rattle.pc_holdings.specs.State.{said};
+ghost use Rattle.pc_account_holdings.specs.State.{said};
 ghost use Rattle.pc_account.specs.Plan.{IsWish};
 
 use super::mails::{mails, rise};
@@ -160,7 +160,7 @@ fn add_letters(
     mailbox: Name,
 ) -> Result<(), Fail> {
     for _ in 0..number(words, 0)? {
-        letters.push(mailbox, message(alloc, number(words, 1)?)?)?;
+        letters.push((mailbox, message(alloc, number(words, 1)?)?))?;
     }
     Ok(())
 }

@@ -1,9 +1,9 @@
 //! What is told of an account, as text.
 
 use super::words::{digest, name, number};
-use crate::{Account, Answer, AskFault, ClientRow, MailboxRow, Question, SubscriptionRow};
-use pc_base::Name;
-use pc_history::Listed;
+use crate::{Account, Answer, ClientRow, MailboxRow, Question, SubscriptionRow};
+use pc_account_history::Listed;
+use pc_base::{AskFault, Name};
 use pc_message::Change;
 use std::alloc::Global;
 use std::test::Fail;

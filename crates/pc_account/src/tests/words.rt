@@ -1,12 +1,12 @@
 //! The words of a line, and the wishes that they spell.
 
 ghost use Rattle.std.specs.Prelude.{◌≤◌, IfOk};
-ghost use Rattle.pc_history.specs.Known.{Known};
+ghost use Rattle.pc_account_history.specs.Known.{Known};
 ghost use Rattle.pc_account.specs.Plan.{IsWish};
 
 use crate::Wish;
+use pc_account_history::Listed;
 use pc_base::{Line, Lines, Name, read_u32};
-use pc_history::Listed;
 use pc_mailbox::Shown;
 use pc_message::Message;
 use std::alloc::Global;

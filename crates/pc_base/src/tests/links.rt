@@ -5,7 +5,10 @@ ghost use Rattle.std.specs.Io.{ReadsAtMost};
 ghost use Rattle.std.specs.Io.KnownBytes.{Appends, Consumes, ReadConsumes};
 ghost use Rattle.pc_base.specs.Stream.{HasCause};
 
+use super::{answers, same};
 use crate::{Failed, Link, MemoryLink, Source, write_all};
+use std::alloc::Global;
+use std::process::Abort;
 
 /// One read of any source, as a reader of lines makes it.
 fn read_some<S: Source>(source: &mut S, into: &mut [u8]) -> Result<usize, Failed>
@@ -32,42 +35,51 @@ fn echo<L: Link>(link: &mut L, into: &mut [u8]) -> Result<usize, Failed>
     Ok(count)
 }
 
+// One echo: how many bytes came, and both sides behind it.
+fn echoes(rt: &impl Abort, link: &mut MemoryLink, count: usize, unread: &[u8], written: &[u8]) {
+    let mut into = [b'.'; 4];
+    answers(rt, 0, echo(link, &mut into), Ok(count));
+    same(rt, link.unread(), unread);
+    same(rt, link.bytes(), written);
+}
+
 #[test]
 fn reads_and_writes_in_turn(rt: HostRuntime) {
     let mut link = MemoryLink::new(rt.alloc(), b"help\nnoop").in_pieces(3);
-    let mut into = [b'.'; 4];
-    let steps = [
-        (3, b"p\nnoop".as_slice(), b"hel".as_slice()),
-        (3, b"oop", b"help\nn"),
-        (3, b"", b"help\nnoop"),
-        (0, b"", b"help\nnoop"),
-    ];
-    for (count, unread, bytes) in steps {
-        assert_eq!(rt; echo(&mut link, &mut into), Ok(count));
-        assert_eq!(rt; link.unread(), unread);
-        assert_eq!(rt; link.bytes(), bytes);
-    }
+    echoes(&rt, &mut link, 3, b"p\nnoop", b"hel");
+    echoes(&rt, &mut link, 3, b"oop", b"help\nn");
+    echoes(&rt, &mut link, 3, b"", b"help\nnoop");
+    echoes(&rt, &mut link, 0, b"", b"help\nnoop");
+}
+
+// A link that fails at this call: only this one of its four calls fails.
+fn fails_at(
+    rt: &impl Abort,
+    alloc: Global,
+    call: u64,
+    wanted: [Result<usize, Failed>; 4],
+    unread: &[u8],
+) {
+    let mut link = MemoryLink::new(alloc, b"abcd")
+        .in_pieces(2)
+        .failing_at(call);
+    let mut into = [b'.'; 3];
+    answers(rt, call, Link::read(&mut link, &mut into), wanted[0]);
+    answers(rt, call, link.write(b"x"), wanted[1]);
+    answers(rt, call, Link::read(&mut link, &mut into), wanted[2]);
+    answers(rt, call, link.write(b"yz."), wanted[3]);
+    same(rt, link.unread(), unread);
 }
 
 #[test]
 fn a_link_fails_at_one_call_of_both_kinds(rt: HostRuntime) {
-    let rows = [
-        (1, [Err(Failed), Ok(1), Ok(2), Ok(2)], b"cd".as_slice()),
-        (2, [Ok(2), Err(Failed), Ok(2), Ok(2)], b""),
-        (3, [Ok(2), Ok(1), Err(Failed), Ok(2)], b"cd"),
-        (4, [Ok(2), Ok(1), Ok(2), Err(Failed)], b""),
-        (5, [Ok(2), Ok(1), Ok(2), Ok(2)], b""),
-    ];
-    for (call, answers, unread) in rows {
-        let new = MemoryLink::new(rt.alloc(), b"abcd");
-        let mut link = new.in_pieces(2).failing_at(call);
-        let mut into = [b'.'; 3];
-        assert_eq!(rt; Link::read(&mut link, &mut into), answers[0], "{call}");
-        assert_eq!(rt; link.write(b"x"), answers[1], "{call}");
-        assert_eq!(rt; Link::read(&mut link, &mut into), answers[2], "{call}");
-        assert_eq!(rt; link.write(b"yz."), answers[3], "{call}");
-        assert_eq!(rt; link.unread(), unread, "{call}");
-    }
+    let alloc = rt.alloc();
+    let failed = Err(Failed);
+    fails_at(&rt, alloc, 1, [failed, Ok(1), Ok(2), Ok(2)], b"cd");
+    fails_at(&rt, alloc, 2, [Ok(2), failed, Ok(2), Ok(2)], b"");
+    fails_at(&rt, alloc, 3, [Ok(2), Ok(1), failed, Ok(2)], b"cd");
+    fails_at(&rt, alloc, 4, [Ok(2), Ok(1), Ok(2), failed], b"");
+    fails_at(&rt, alloc, 5, [Ok(2), Ok(1), Ok(2), Ok(2)], b"");
 }
 
 #[test]
@@ -75,7 +87,7 @@ fn a_link_with_room_takes_no_memory(rt: HostRuntime) {
     let Ok(mut link) = MemoryLink::with_room(rt.alloc(), b"", 5) else {
         return;
     };
-    assert_eq!(rt; link.write(b"hello"), Ok(5));
-    assert_eq!(rt; link.write(b""), Ok(0));
-    assert_eq!(rt; link.bytes(), b"hello".as_slice());
+    answers(&rt, 1, link.write(b"hello"), Ok(5));
+    answers(&rt, 2, link.write(b""), Ok(0));
+    same(&rt, link.bytes(), b"hello");
 }

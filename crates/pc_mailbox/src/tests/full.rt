@@ -1,11 +1,12 @@
 //! Tests of a mailbox that has all the messages that it can have, for sixteen clients.
 
-use super::{add, letter, set_flag};
+use super::{add_all, counts, holds, set_flag};
 use crate::Mailbox;
+use pc_account_history::{Listed, MOST_MESSAGES};
 use pc_base::Name;
-use pc_history::{Listed, MOST_MESSAGES};
 use pc_message::Change;
 use std::alloc::Global;
+use std::process::Abort;
 use std::test::Fail;
 
 /// The client with this number.
@@ -25,10 +26,7 @@ fn add_clients(alloc: Global, mailbox: &mut Mailbox) -> Result<(), Fail> {
 fn full(alloc: Global) -> Result<Mailbox, Fail> {
     let mut inbox = Mailbox::empty(alloc)?;
     add_clients(alloc, &mut inbox)?;
-    let message = letter(alloc)?;
-    for _ in 0..MOST_MESSAGES {
-        add(alloc, &mut inbox, 20, &message)?;
-    }
+    add_all(alloc, &mut inbox, 20, MOST_MESSAGES)?;
     Ok(inbox)
 }
 
@@ -52,9 +50,11 @@ fn all_have(mailbox: &Mailbox, count: u32) -> Result<bool, Fail> {
     Ok(true)
 }
 
-/// Whether these are the flags of a message.
-fn has_flags(mailbox: &Mailbox, uid: u32, flags: u16) -> bool {
-    mailbox.live(uid) == Some(flags)
+/// Looks at the flags of each message with these uids.
+fn have_flags(rt: &impl Abort, mailbox: &Mailbox, rows: &[(u32, Option<u16>)]) {
+    for (uid, flags) in rows {
+        assert_eq!(rt; mailbox.live(*uid), *flags, "of {uid}");
+    }
 }
 
 /// The uids of the descriptors from one uid to another.
@@ -68,15 +68,18 @@ fn told(alloc: Global, mailbox: &Mailbox, low: u32, high: u32) -> Result<Vec<u32
     Ok(uids)
 }
 
-/// Whether these are the uids from one uid to another.
+/// Looks whether these are the uids that are told from one uid to another.
 fn tells(
+    rt: &impl Abort,
     alloc: Global,
     mailbox: &Mailbox,
     low: u32,
     high: u32,
     uids: &[u32],
-) -> Result<bool, Fail> {
-    Ok(told(alloc, mailbox, low, high)?.as_slice() == uids)
+) -> Result<(), Fail> {
+    let found = told(alloc, mailbox, low, high)?;
+    assert_eq!(rt; found.as_slice(), uids, "from {low} to {high}");
+    Ok(())
 }
 
 /// A full mailbox in which the first message, one in the middle and the last have flag 1 on.
@@ -91,22 +94,33 @@ fn flagged(alloc: Global) -> Result<Mailbox, Fail> {
 #[test]
 fn flags_are_set(rt: HostRuntime) -> Result<(), Fail> {
     let inbox = flagged(rt.alloc())?;
-    assert!(rt; has_flags(&inbox, 1, 2) && has_flags(&inbox, 2, 0) && has_flags(&inbox, 3, 0));
-    assert!(rt; has_flags(&inbox, 2_047, 0) && has_flags(&inbox, 2_048, 2));
-    assert!(rt; has_flags(&inbox, 2_049, 0) && has_flags(&inbox, 4_095, 0));
-    assert!(rt; has_flags(&inbox, 4_096, 2));
-    assert!(rt; inbox.live(0).is_none() && inbox.live(4_097).is_none());
-    assert!(rt; inbox.body(4_097).is_none() && !inbox.deletes());
+    have_flags(&rt, &inbox, &FLAGGED);
+    holds(&rt, "no body", inbox.body(4_097).is_none());
+    holds(&rt, "deletes nothing", !inbox.deletes());
     Ok(())
 }
+
+static FLAGGED: [(u32, Option<u16>); 10] = [
+    (0, None),
+    (1, Some(2)),
+    (2, Some(0)),
+    (3, Some(0)),
+    (2_047, Some(0)),
+    (2_048, Some(2)),
+    (2_049, Some(0)),
+    (4_095, Some(0)),
+    (4_096, Some(2)),
+    (4_097, None),
+];
 
 #[test]
 fn flags_are_listed(rt: HostRuntime) -> Result<(), Fail> {
     let inbox = flagged(rt.alloc())?;
-    assert!(rt; all_have(&inbox, 4_096)?);
-    assert!(rt; all_list(&inbox, 2_048, 22)?);
-    assert!(rt; all_list(&inbox, 2_049, 20)?);
-    assert!(rt; inbox.takers(1) == 16 && inbox.takers(4_096) == 16);
+    holds(&rt, "all are listed", all_have(&inbox, 4_096)?);
+    holds(&rt, "the flag", all_list(&inbox, 2_048, 22)?);
+    holds(&rt, "no flag", all_list(&inbox, 2_049, 20)?);
+    counts(&rt, "takers of 1", inbox.takers(1) as u64, 16);
+    counts(&rt, "takers of 4096", inbox.takers(4_096) as u64, 16);
     Ok(())
 }
 
@@ -125,7 +139,7 @@ fn is_in_order(alloc: Global, mailbox: &Mailbox, number: u8) -> Result<bool, Fai
 fn lists_are_in_order(rt: HostRuntime) -> Result<(), Fail> {
     let inbox = flagged(rt.alloc())?;
     for number in 0..16 {
-        assert!(rt; is_in_order(rt.alloc(), &inbox, number)?);
+        holds(&rt, "in order", is_in_order(rt.alloc(), &inbox, number)?);
     }
     Ok(())
 }
@@ -141,24 +155,35 @@ fn expunged(alloc: Global) -> Result<Mailbox, Fail> {
 #[test]
 fn a_message_is_taken_away(rt: HostRuntime) -> Result<(), Fail> {
     let inbox = expunged(rt.alloc())?;
-    assert!(rt; inbox.live(2_048).is_none() && !inbox.deletes());
-    assert!(rt; has_flags(&inbox, 2_047, 0) && has_flags(&inbox, 2_049, 0));
-    assert!(rt; inbox.count() == 4_095 && inbox.weight() == 1_085_175);
-    assert!(rt; all_list(&inbox, 2_048, 22)?);
+    have_flags(&rt, &inbox, &EXPUNGED);
+    holds(&rt, "deletes nothing", !inbox.deletes());
+    counts(&rt, "count", inbox.count() as u64, 4_095);
+    counts(&rt, "weight", inbox.weight() as u64, 1_085_175);
+    holds(&rt, "is listed", all_list(&inbox, 2_048, 22)?);
     Ok(())
 }
+
+static EXPUNGED: [(u32, Option<u16>); 3] = [(2_047, Some(0)), (2_048, None), (2_049, Some(0))];
 
 #[test]
 fn descriptors_are_told(rt: HostRuntime) -> Result<(), Fail> {
     let inbox = expunged(rt.alloc())?;
-    assert!(rt; tells(rt.alloc(), &inbox, 2_047, 2_049, &[2_047, 2_049])?);
-    assert!(rt; tells(rt.alloc(), &inbox, 2_048, 2_048, &[])?);
-    assert!(rt; tells(rt.alloc(), &inbox, 0, 2, &[1, 2])?);
-    assert!(rt; tells(rt.alloc(), &inbox, 4_095, u32::MAX, &[4_095, 4_096])?);
-    assert!(rt; tells(rt.alloc(), &inbox, 9, 3, &[])?);
-    assert!(rt; told(rt.alloc(), &inbox, 0, u32::MAX)?.len() == 4_095);
+    for (low, high, uids) in &TOLD {
+        tells(&rt, rt.alloc(), &inbox, *low, *high, uids)?;
+    }
+    let all = told(rt.alloc(), &inbox, 0, u32::MAX)?;
+    counts(&rt, "all", all.len() as u64, 4_095);
     Ok(())
 }
+
+/// The uids that are told from one to another.
+static TOLD: [(u32, u32, &[u32]); 5] = [
+    (2_047, 2_049, &[2_047, 2_049]),
+    (2_048, 2_048, &[]),
+    (0, 2, &[1, 2]),
+    (4_095, u32::MAX, &[4_095, 4_096]),
+    (9, 3, &[]),
+];
 
 /// A full mailbox that was emptied; then all that lives was listed for each client.
 fn emptied(alloc: Global) -> Result<Mailbox, Fail> {
@@ -173,9 +198,11 @@ fn emptied(alloc: Global) -> Result<Mailbox, Fail> {
 #[test]
 fn all_are_taken_away(rt: HostRuntime) -> Result<(), Fail> {
     let inbox = emptied(rt.alloc())?;
-    assert!(rt; inbox.count() == 0 && inbox.weight() == 0 && inbox.highest() == 4_096);
-    assert!(rt; all_have(&inbox, 4_096)?);
-    assert!(rt; all_list(&inbox, 2_048, 22)?);
-    assert!(rt; all_list(&inbox, 1, 23)?);
+    counts(&rt, "count", inbox.count() as u64, 0);
+    counts(&rt, "weight", inbox.weight() as u64, 0);
+    counts(&rt, "highest", inbox.highest() as u64, 4_096);
+    holds(&rt, "all are listed", all_have(&inbox, 4_096)?);
+    holds(&rt, "the expunged one", all_list(&inbox, 2_048, 22)?);
+    holds(&rt, "the first one", all_list(&inbox, 1, 23)?);
     Ok(())
 }

@@ -2,8 +2,7 @@
 
 use super::words::{entry, name, number, wish};
 use crate::{Office, OfficeWish};
-use pc_account::AskFault;
-use pc_base::{Name, Names};
+use pc_base::{AskFault, Name, Names};
 use pc_message::Mails;
 use pc_office_history::OfficeEntry;
 use std::alloc::Global;

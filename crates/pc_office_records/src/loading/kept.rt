@@ -4,11 +4,11 @@ ghost use Rattle.std.specs.Prelude.{◌≡◌, ◌*◌, ◌≤◌, ◌<◌, ◌&
 ghost use Rattle.std.specs.List.{list_all, AllByRecursion};
 ghost use Rattle.std.specs.Map.{keys_of, lookup};
 ghost use Rattle.pc_message.specs.Message.{size_of};
-ghost use Rattle.pc_history.specs.Table.{same, is_among};
-ghost use Rattle.pc_history.specs.Legal.{AreDistinct};
-ghost use Rattle.pc_spelling.specs.Fields.{name_kind, u16_kind, u32_kind, u64_kind, FieldReads};
-ghost use Rattle.pc_spelling.specs.Format.{Reads};
-ghost use Rattle.pc_spelling.specs.RecordFormat.{is_new, message_within};
+ghost use Rattle.pc_tables.specs.Table.{same, is_among};
+ghost use Rattle.pc_tables.specs.Order.{AreDistinct};
+ghost use Rattle.pc_fields.specs.Fields.{name_kind, u16_kind, u32_kind, u64_kind, FieldReads, is_new};
+ghost use Rattle.pc_fields.specs.Format.{Reads};
+ghost use Rattle.pc_fields.specs.MessageFormat.{message_within};
 ghost use Rattle.pc_office_history.specs.declared.kept.KeptMail.{KeptMail};
 ghost use Rattle.pc_office_spelling.specs.Spaces.{space_beside, users_of, greatest};
 ghost use Rattle.pc_office_spelling.specs.RecordFormat.{items_from, target_format, kept_format, kept_list_format};
@@ -18,12 +18,10 @@ ghost use Rattle.pc_office_records.specs.Loading.{IsUncounted};
 ghost use Rattle.pc_office_records.specs.ReadKept.{rows_in, row_in, space_in, upto_in, suits_in, follow_in, is_light_in, may_in, open_in, is_open_row, count_open, is_next_number, is_many, AreOpen, AreTallied, IsLast};
 
 use pc_base::{Memory, Name};
-use pc_history::LAST_MAIL;
-use pc_message::Message;
+use pc_fields::{Cursor, Halt, read_message};
+use pc_message::{LAST_MAIL, Message};
 use pc_office_history::{KeptMail, MOST_USERS, MOST_WAITING, MOST_WAITING_WEIGHT, Target, Targets};
 use pc_office_holdings::{Standing, Users};
-use pc_office_spelling::read_message;
-use pc_spelling::{Cursor, Halt};
 use std::alloc::Global;
 
 /// The mails that still wait for users of whom none is counted yet. Each mail is counted for those

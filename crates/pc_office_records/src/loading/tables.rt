@@ -3,24 +3,22 @@
 ghost use Rattle.std.specs.Prelude.{◌≡◌, ℕ, ◌+◌, ◌-◌, ◌*◌, ◌/◌, ◌≤◌, ◌++◌, [], ◌∷◌, min, None, map, List, IfOk, MatchResult};
 ghost use Rattle.std.specs.Map.{keys_of, lookup};
 ghost use Rattle.pc_message.specs.Message.{weight_of};
-ghost use Rattle.pc_history.specs.Table.{same, is_among, total};
-ghost use Rattle.pc_spelling.specs.Fields.{name_kind, FieldReads};
-ghost use Rattle.pc_spelling.specs.Format.{Reads};
-ghost use Rattle.pc_spelling.specs.RecordFormat.{is_new};
+ghost use Rattle.pc_tables.specs.Table.{same, is_among, total};
+ghost use Rattle.pc_fields.specs.Fields.{name_kind, FieldReads, is_new};
+ghost use Rattle.pc_fields.specs.Format.{Reads};
 ghost use Rattle.pc_office_spelling.specs.RecordFormat.{items_from, user_format, users_format, address_format, most_addresses, addresses_format, message_format, board_format, boards_format};
 ghost use Rattle.pc_office_holdings.specs.Held.{noted_of, weight_on_all};
 ghost use Rattle.pc_office_records.specs.Loading.{IsUncounted, AreUncounted};
 
 use indexmap::IndexMap;
 use pc_base::Name;
-use pc_history::LAST_MAIL;
-use pc_holdings::tables;
+use pc_fields::{Cursor, Halt, read_message};
+use pc_message::LAST_MAIL;
 use pc_office_history::{
     MOST_ADDRESSES, MOST_BOARD_MESSAGES, MOST_BOARD_WEIGHT, MOST_BOARDS, MOST_USERS, Target,
 };
 use pc_office_holdings::{Boards, Messages, Standing, Users};
-use pc_office_spelling::read_message;
-use pc_spelling::{Cursor, Halt};
+use pc_tables::tables;
 use std::alloc::Global;
 
 /// The users with what is noted of them. Nothing is counted yet.

@@ -147,9 +147,10 @@ fn what_no_line_holds_is_past_its_limit(rt: HostRuntime) -> Result<(), Fail> {
     Ok(())
 }
 
-/// With memory enough no want of it is told; where an allocation fails, it is told at the dot too.
+/// Behind the dot a new body begins. A line that wants memory, as under `rt try --test --fail-alloc`,
+/// lets only want of memory come at the dot.
 #[test]
-fn want_of_memory_is_told_again(rt: HostRuntime) -> Result<(), Fail> {
+fn a_body_ends_at_its_dot(rt: HostRuntime) -> Result<(), Fail> {
     let mut body = BodyFeed::new(rt.alloc(), 65536, 32768);
     let mut wanted = false;
     for line in [b"a".as_slice(), b"b", b"c", b"d", b"e"] {

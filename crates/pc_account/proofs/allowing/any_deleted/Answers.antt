@@ -1,7 +1,7 @@
 use Rattle.std.proofs.Common.{◌∙◌, sym, ap}
 use Rattle.std.specs.List.{list_any}
-use Rattle.pc_history.specs.declared.kept.Kept.{Kept}
-use Rattle.pc_history.specs.Flags.{flag_of}
+use Rattle.pc_account_history.specs.declared.kept.Kept.{Kept}
+use Rattle.pc_message.specs.Flags.{flag_of}
 use Rattle.pc_account.proofs.Found.{live-messages, no-messages}
 use Rattle.pc_account.proofs.allowing.any_deleted.Goals as goal
 

@@ -1,6 +1,6 @@
 use Rattle.std.proofs.Common.{◌∙◌, sym, ap, is_some}
 use Rattle.std.specs.List.{list_all}
-use Rattle.pc_history.specs.Record.{MailboxRecord, list_of, stamp_at}
+use Rattle.pc_account_history.specs.Record.{MailboxRecord, list_of, stamp_at}
 use Rattle.pc_account.proofs.Found.{live-found, not-dead}
 use Rattle.pc_account.proofs.allowing.are_listed.Goals as goal
 

@@ -1,6 +1,6 @@
 use Rattle.std.proofs.Common.{◌∙◌, sym, ap, List, option_map}
-use Rattle.pc_history.specs.declared.kept.Kept.{Kept}
-use Rattle.pc_history.specs.Record.{kept_at}
+use Rattle.pc_account_history.specs.declared.kept.Kept.{Kept}
+use Rattle.pc_account_history.specs.Record.{kept_at}
 use Rattle.pc_account.proofs.Found.{dead-messages}
 use Rattle.pc_account.proofs.allowing.flags_of.Goals as goal
 

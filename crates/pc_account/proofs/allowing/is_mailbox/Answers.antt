@@ -1,5 +1,5 @@
 use Rattle.std.proofs.Common.{◌∙◌, sym}
-use Rattle.pc_history.proofs.Tables.{is_among-keys}
+use Rattle.pc_tables.proofs.Table.{is_among-keys}
 use Rattle.pc_account.proofs.allowing.is_mailbox.Goals as goal
 
 pub returns : goal.returns

@@ -1,5 +1,5 @@
 use Rattle.std.proofs.Common.{◌≡◌, drop}
-use Rattle.pc_history.specs.Allowed.{rises_from}
+use Rattle.pc_tables.specs.Order.{rises_from}
 use Rattle.pc_account.proofs.allowing.rise.Given as goal
 
 -- the uids rise exactly where the rest do from the last one on

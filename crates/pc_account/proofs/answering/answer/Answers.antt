@@ -1,6 +1,7 @@
 use Rattle.std.proofs.Common.{sym, subst}
-use Rattle.pc_holdings.specs.State.{said}
-use Rattle.pc_account.specs.Answers.{answered, Tells}
+use Rattle.pc_base.specs.AskFault.{Tells}
+use Rattle.pc_account_holdings.specs.State.{said}
+use Rattle.pc_account.specs.Answers.{answered}
 use Rattle.pc_account.specs.declared.answer.Question.{Question}
 use Rattle.pc_account.proofs.answering.answer.Goals as goal
 

@@ -1,10 +1,10 @@
 use Rattle.std.proofs.Common.{◌&&◌, nat_le, List, map, refl, sym, ◌∙◌, ap}
 use Rattle.std.specs.List.{filter}
-use Rattle.pc_history.specs.declared.kept.Kept.{Kept}
+use Rattle.pc_account_history.specs.declared.kept.Kept.{Kept}
 use Rattle.pc_account.specs.declared.answer.Answer.TheVariants as answer
 use Rattle.pc_account.proofs.Found.{live-messages}
 use Rattle.pc_message.specs.declared.descriptor.Change.TheVariants.{Present}
-use Rattle.pc_history.specs.Answers.{descriptor_at}
+use Rattle.pc_account_history.specs.Answers.{descriptor_at}
 use Rattle.pc_account.proofs.Told.{lives, dead}
 use Rattle.pc_account.proofs.answering.descriptors.Goals as goal
 

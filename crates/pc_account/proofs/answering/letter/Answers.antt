@@ -1,5 +1,5 @@
 use Rattle.std.proofs.Common.{refl, sym}
-use Rattle.pc_history.specs.Record.{kept_at}
+use Rattle.pc_account_history.specs.Record.{kept_at}
 use Rattle.pc_account.proofs.Found.{live-found}
 use Rattle.pc_account.proofs.Told.{lives, dead, letter-gone, letter-there, letter-taken}
 use Rattle.pc_account.proofs.answering.letter.Goals as goal

@@ -1,8 +1,8 @@
 use Rattle.std.proofs.Common.{◌≡◌, ◌∙◌, ℕ, List, sym}
-use Rattle.pc_holdings.specs.State.{said}
+use Rattle.pc_base.proofs.Results.{if-ok}
+use Rattle.pc_account_holdings.specs.State.{said}
 use Rattle.pc_account.specs.Plan.{all_taken, taken_uids}
 use Rattle.pc_account.proofs.Found.{not-dead}
-use Rattle.pc_holdings.proofs.States.{if-ok}
 use Rattle.pc_account.proofs.Taken.{taken-planned}
 use Rattle.pc_account.proofs.forgetting.taken_uids.Goals as goal
 

@@ -1,4 +1,4 @@
-use Rattle.pc_records.specs.Recorded.{legal_is_canonical, legal_record_size, state_is_read}
+use Rattle.pc_account_records.specs.Recorded.{legal_is_canonical, legal_record_size, state_is_read}
 use Rattle.pc_account.proofs.laws.legal_is_saved.Goals as goal
 
 pub returns : goal.returns

@@ -1,4 +1,4 @@
-use Rattle.pc_records.specs.Recorded.{one_state}
+use Rattle.pc_account_records.specs.Recorded.{one_state}
 use Rattle.pc_account.proofs.laws.one_state.Goals as goal
 
 pub returns : goal.returns

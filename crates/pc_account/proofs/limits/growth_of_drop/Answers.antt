@@ -1,8 +1,8 @@
 use Rattle.std.proofs.Common.{◌+◌, ◌∙◌, sym, ap}
 use Rattle.std.proofs.lemmas.Bool.{and_parts}
 use Rattle.pc_account.proofs.Found.{not-dead}
-use Rattle.pc_history.specs.Known.{said_by}
-use Rattle.pc_history.specs.Limits.{listed_count}
+use Rattle.pc_account_history.specs.Known.{said_by}
+use Rattle.pc_account_history.specs.Limits.{listed_count}
 use Rattle.pc_account.proofs.Changed.{changes-dropped}
 use Rattle.pc_account.proofs.limits.growth_of_drop.Goals as goal
 

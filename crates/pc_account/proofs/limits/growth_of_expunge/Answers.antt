@@ -1,6 +1,6 @@
 use Rattle.std.proofs.Common.{sym, arith}
-use Rattle.pc_history.specs.declared.entry.Entry.TheVariants.{Expunge}
-use Rattle.pc_history.specs.Step.{expunged}
+use Rattle.pc_account_history.specs.declared.entry.Entry.TheVariants.{Expunge}
+use Rattle.pc_account_history.specs.Step.{expunged}
 use Rattle.std.proofs.lemmas.Bool.{and_parts}
 use Rattle.pc_account.proofs.Found.{not-dead}
 use Rattle.pc_account.proofs.Changed.{listed-now, listed-after, listed-at, box-formed, listed-expunged}

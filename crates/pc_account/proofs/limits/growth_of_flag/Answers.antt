@@ -1,11 +1,11 @@
 use Rattle.std.proofs.Common.{◌∙◌, sym, ap, arith, is_some, true≢false}
 use Rattle.std.proofs.lemmas.Bool.{and_parts}
-use Rattle.pc_history.specs.declared.entry.Entry.TheVariants.{Flag}
-use Rattle.pc_history.proofs.Tables.{some-from_map_or}
-use Rattle.pc_history.proofs.Mailboxes.{lives-from_kept}
+use Rattle.pc_account_history.specs.declared.entry.Entry.TheVariants.{Flag}
+use Rattle.pc_tables.proofs.Options.{some-from_map_or}
+use Rattle.pc_account_history.proofs.Mailboxes.{lives-from_kept}
 use Rattle.pc_account.proofs.Touched.{takers-few}
 use Rattle.pc_account.proofs.Found.{clients-counted}
-use Rattle.pc_history.specs.Step.{with_flag_set}
+use Rattle.pc_account_history.specs.Step.{with_flag_set}
 use Rattle.pc_account.proofs.Changed.{listed-now, listed-after, listed-at, box-formed, lists-counted, listed-flag}
 use Rattle.pc_account.proofs.limits.growth_of_flag.Goals as goal
 

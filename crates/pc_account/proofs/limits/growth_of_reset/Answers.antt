@@ -1,8 +1,8 @@
 use Rattle.std.proofs.Common.{sym, arith}
 use Rattle.std.proofs.lemmas.Bool.{and_parts}
-use Rattle.pc_history.specs.declared.entry.Entry.TheVariants.{ResetMailbox}
+use Rattle.pc_account_history.specs.declared.entry.Entry.TheVariants.{ResetMailbox}
 use Rattle.pc_account.proofs.Found.{not-dead}
-use Rattle.pc_history.specs.Step.{reset_for}
+use Rattle.pc_account_history.specs.Step.{reset_for}
 use Rattle.pc_account.proofs.Changed.{listed-now, listed-after, listed-at, box-formed, listed-reset}
 use Rattle.pc_account.proofs.limits.growth_of_reset.Goals as goal
 

@@ -1,6 +1,6 @@
 use Rattle.std.proofs.Common.{◌+◌, ◌∙◌, sym, ap}
-use Rattle.pc_history.specs.Known.{said_by}
-use Rattle.pc_history.specs.Limits.{listed_count}
+use Rattle.pc_account_history.specs.Known.{said_by}
+use Rattle.pc_account_history.specs.Limits.{listed_count}
 use Rattle.pc_account.proofs.Changed.{changes-reset}
 use Rattle.pc_account.proofs.limits.growth_of_resets.Goals as goal
 

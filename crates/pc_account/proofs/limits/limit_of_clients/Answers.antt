@@ -1,14 +1,15 @@
 use Rattle.std.proofs.Common.{◌∙◌, sym, ap, arith, None, nat_lt}
 use Rattle.pc_base.specs.declared.refusal.LimitWord.TheVariants.{Clients, Changes}
-use Rattle.pc_history.specs.declared.limits.TheConstants.{MOST_CLIENTS, MOST_CHANGES}
-use Rattle.pc_history.specs.declared.entry.Entry.TheVariants.{MakeClient}
-use Rattle.pc_history.specs.Known.{after_entry}
-use Rattle.pc_history.specs.Limits.{listed_count}
-use Rattle.pc_holdings.specs.State.{said}
+use Rattle.pc_account_history.specs.declared.limits.TheConstants.{MOST_CLIENTS, MOST_CHANGES}
+use Rattle.pc_account_history.specs.declared.entry.Entry.TheVariants.{MakeClient}
+use Rattle.pc_account_history.specs.Known.{after_entry}
+use Rattle.pc_account_history.specs.Limits.{listed_count}
+use Rattle.pc_account_holdings.specs.State.{said}
 use Rattle.pc_account.specs.Limits.{limit_where}
 use Rattle.pc_account.proofs.TableSums.{none-from}
 use Rattle.pc_account.proofs.Found.{not-true, clients-counted}
-use Rattle.pc_account.proofs.Passed.{some-limit, no-limit, above, not-above, length-pushed}
+use Rattle.pc_tables.proofs.Table.{length-pushed}
+use Rattle.pc_account.proofs.Passed.{some-limit, no-limit, above, not-above}
 use Rattle.pc_account.proofs.limits.limit_of_clients.Goals as goal
 
 pub returns-then-len-ge-MOST_CLIENTS : goal.returns-then-len-ge-MOST_CLIENTS

@@ -1,8 +1,8 @@
 use Rattle.std.proofs.Common.{◌∙◌, ℕ, [], ◌∷◌, sym, ap}
-use Rattle.pc_history.specs.Record.{MailboxRecord, kept_at}
-use Rattle.pc_history.specs.Known.{said_by}
-use Rattle.pc_history.proofs.Needs.{copy-parts}
-use Rattle.pc_holdings.specs.State.{said}
+use Rattle.pc_account_history.specs.Record.{MailboxRecord, kept_at}
+use Rattle.pc_account_history.specs.Known.{said_by}
+use Rattle.pc_account_history.proofs.Needs.{copy-parts}
+use Rattle.pc_account_holdings.specs.State.{said}
 use Rattle.pc_account.specs.Limits.{limit_of_parcels}
 use Rattle.pc_account.proofs.Found.{not-dead, live-found}
 use Rattle.pc_account.proofs.Brought.{copied-limit}

@@ -1,6 +1,6 @@
 use Rattle.std.proofs.Common.{◌∙◌, sym, ap, arith, length, None}
 use Rattle.pc_base.specs.declared.refusal.LimitWord.TheVariants.{Mailboxes}
-use Rattle.pc_history.specs.declared.limits.TheConstants.{MOST_MAILBOXES}
+use Rattle.pc_account_history.specs.declared.limits.TheConstants.{MOST_MAILBOXES}
 use Rattle.pc_account.proofs.Found.{not-true}
 use Rattle.pc_account.proofs.Passed.{some-limit, no-limit, above, not-above, names-again, names-more, within-names}
 use Rattle.pc_account.proofs.limits.limit_of_names.Goals as goal

@@ -1,5 +1,5 @@
 use Rattle.std.proofs.Common.{◌∙◌, sym, map}
-use Rattle.pc_history.specs.declared.entry.Entry.TheVariants.{Pull}
+use Rattle.pc_account_history.specs.declared.entry.Entry.TheVariants.{Pull}
 use Rattle.pc_account.specs.Limits.{parcel_of}
 use Rattle.pc_account.proofs.Bringing.{limit-brought}
 use Rattle.pc_account.proofs.Brought.{pull-brings}

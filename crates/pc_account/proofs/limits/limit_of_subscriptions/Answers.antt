@@ -1,9 +1,10 @@
 use Rattle.std.proofs.Common.{arith, None}
 use Rattle.pc_base.specs.declared.refusal.LimitWord.TheVariants.{Subscriptions}
-use Rattle.pc_history.specs.declared.limits.TheConstants.{MOST_SUBSCRIPTIONS}
+use Rattle.pc_account_history.specs.declared.limits.TheConstants.{MOST_SUBSCRIPTIONS}
 use Rattle.pc_account.proofs.TableSums.{none-from}
 use Rattle.pc_account.proofs.Found.{not-true, clients-counted}
-use Rattle.pc_account.proofs.Passed.{some-limit, no-limit, above, not-above, length-pushed}
+use Rattle.pc_tables.proofs.Table.{length-pushed}
+use Rattle.pc_account.proofs.Passed.{some-limit, no-limit, above, not-above}
 use Rattle.pc_account.proofs.limits.limit_of_subscriptions.Goals as goal
 
 pub returns-then-len-ge-MOST_SUBSCRIPTIONS : goal.returns-then-len-ge-MOST_SUBSCRIPTIONS

@@ -1,10 +1,10 @@
 use Rattle.std.proofs.Common.{◌≡◌, ◌∙◌, sym, ap, subst, ℕ, List, nat_lt, None}
 use Rattle.pc_base.specs.declared.refusal.LimitWord.TheVariants.{Changes}
-use Rattle.pc_history.specs.declared.entry.Entry.{Entry}
-use Rattle.pc_history.specs.declared.entry.Entry.TheVariants.{Pull}
-use Rattle.pc_history.specs.declared.limits.TheConstants.{MOST_CHANGES}
-use Rattle.pc_history.specs.Limits.{limit_passed}
-use Rattle.pc_holdings.specs.State.{said}
+use Rattle.pc_account_history.specs.declared.entry.Entry.{Entry}
+use Rattle.pc_account_history.specs.declared.entry.Entry.TheVariants.{Pull}
+use Rattle.pc_account_history.specs.declared.limits.TheConstants.{MOST_CHANGES}
+use Rattle.pc_account_history.specs.Limits.{limit_passed}
+use Rattle.pc_account_holdings.specs.State.{said}
 use Rattle.pc_account.specs.Limits.{limit_where}
 use Rattle.pc_account.proofs.limits.limit_passed.Goals as goal
 

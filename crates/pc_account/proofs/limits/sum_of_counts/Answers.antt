@@ -1,5 +1,5 @@
 use Rattle.std.proofs.Common.{◌∙◌, length}
-use Rattle.pc_history.specs.Record.{MailboxRecord}
+use Rattle.pc_account_history.specs.Record.{MailboxRecord}
 use Rattle.pc_account.proofs.TableSums.{sum-whole}
 use Rattle.pc_account.proofs.limits.sum_of_counts.Goals as goal
 

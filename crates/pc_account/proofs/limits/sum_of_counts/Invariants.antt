@@ -1,6 +1,6 @@
 use Rattle.std.proofs.Common.{◌≡◌, ◌+◌, ◌≤◌, ◌*◌, length}
-use Rattle.pc_history.specs.Record.{MailboxRecord}
-use Rattle.pc_history.specs.Table.{total}
+use Rattle.pc_account_history.specs.Record.{MailboxRecord}
+use Rattle.pc_tables.specs.Table.{total}
 use Rattle.pc_account.proofs.limits.sum_of_counts.Given as goal
 
 -- what is summed and what is still to come

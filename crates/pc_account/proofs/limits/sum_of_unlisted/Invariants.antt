@@ -1,5 +1,5 @@
 use Rattle.std.proofs.Common.{◌≡◌, ◌+◌, ◌≤◌, ◌*◌, length}
-use Rattle.pc_history.specs.Table.{total}
+use Rattle.pc_tables.specs.Table.{total}
 use Rattle.pc_mailbox.specs.Growth.{unlisted_for}
 use Rattle.pc_account.proofs.limits.sum_of_unlisted.Given as goal
 

@@ -1,9 +1,9 @@
 use Rattle.std.proofs.Common.{◌+◌, ◌∙◌, ap, arith, length, nat_lt, None}
 use Rattle.pc_base.specs.declared.refusal.LimitWord.TheVariants.{Changes}
-use Rattle.pc_history.specs.declared.limits.TheConstants.{MOST_UIDS, MOST_MESSAGES, MOST_WEIGHT, MOST_CHANGES}
-use Rattle.pc_history.specs.Limits.{weight, listed_count}
-use Rattle.pc_history.specs.Allowed.{messages}
-use Rattle.pc_holdings.specs.State.{said}
+use Rattle.pc_account_history.specs.declared.limits.TheConstants.{MOST_UIDS, MOST_MESSAGES, MOST_WEIGHT, MOST_CHANGES}
+use Rattle.pc_account_history.specs.Limits.{weight, listed_count}
+use Rattle.pc_account_history.specs.Allowed.{messages}
+use Rattle.pc_account_holdings.specs.State.{said}
 use Rattle.pc_account.specs.Limits.{limit_where}
 use Rattle.pc_account.proofs.Found.{clients-counted}
 use Rattle.pc_account.proofs.Passed.{above, not-above}

@@ -1,10 +1,10 @@
 use Rattle.std.proofs.Common.{◌+◌, ◌*◌, ◌∙◌, sym, ap, arith, ℕ, List, map, not, length, nat_lt, None}
 use Rattle.std.specs.List.{list_all}
 use Rattle.pc_base.specs.declared.refusal.LimitWord.TheVariants.{Changes}
-use Rattle.pc_history.specs.declared.limits.TheConstants.{MOST_WEIGHT, MOST_CHANGES}
-use Rattle.pc_history.specs.Limits.{weight, listed_count}
-use Rattle.pc_history.specs.Table.{total}
-use Rattle.pc_holdings.specs.State.{said}
+use Rattle.pc_account_history.specs.declared.limits.TheConstants.{MOST_WEIGHT, MOST_CHANGES}
+use Rattle.pc_account_history.specs.Limits.{weight, listed_count}
+use Rattle.pc_tables.specs.Table.{total}
+use Rattle.pc_account_holdings.specs.State.{said}
 use Rattle.pc_account.specs.Limits.{limit_where, parcel_of, weight_in, has_uids, has_places}
 use Rattle.pc_account.proofs.Found.{clients-counted}
 use Rattle.pc_account.proofs.Passed.{above, not-above}

@@ -1,6 +1,6 @@
 use Rattle.std.proofs.Common.{ℕ, suc, List, take, ap, arith, add-one}
 use Rattle.pc_account.specs.Limits.{parcel_of, weight_in}
-use Rattle.pc_mailbox.proofs.Totals.{total-more}
+use Rattle.pc_tables.proofs.Totals.{total-more}
 use Rattle.pc_account.proofs.Spread.{total-map}
 use Rattle.pc_account.proofs.parcels.weight_of.Goals as goal
 

@@ -1,5 +1,5 @@
 use Rattle.std.proofs.Common.{◌≡◌, ◌≤◌, ◌*◌, map, take}
-use Rattle.pc_history.specs.Table.{total}
+use Rattle.pc_tables.specs.Table.{total}
 use Rattle.pc_account.specs.Limits.{parcel_of, weight_in}
 use Rattle.pc_account.proofs.parcels.weight_of.Given as goal
 

@@ -1,11 +1,11 @@
 use Rattle.std.proofs.Common.{List, sym, subst}
+use Rattle.pc_base.specs.AskFault.{Tells}
 use Rattle.pc_message.specs.declared.lists.Mail.{Mail}
-use Rattle.pc_history.specs.declared.kept.Listed.{Listed}
+use Rattle.pc_account_history.specs.declared.kept.Listed.{Listed}
 use Rattle.pc_account.specs.declared.wish.Wish.{Wish}
 use Rattle.pc_account.specs.declared.wish.Wish.TheVariants as wish
-use Rattle.pc_holdings.specs.State.{said}
+use Rattle.pc_account_holdings.specs.State.{said}
 use Rattle.pc_account.specs.Plan.{planned}
-use Rattle.pc_account.specs.Answers.{Tells}
 use Rattle.pc_account.proofs.planning.plan.Goals as goal
 
 pub returns-in-Forget-clause-exact : goal.returns-in-Forget-clause-exact

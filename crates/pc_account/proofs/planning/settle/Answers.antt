@@ -1,8 +1,8 @@
 use Rattle.std.proofs.Common.{◌≡◌, ◌∙◌, sym, ap, subst, true}
-use Rattle.pc_history.specs.declared.entry.Entry.{Entry}
-use Rattle.pc_history.specs.Allowed.{is_allowed}
-use Rattle.pc_history.specs.Limits.{limit_passed}
-use Rattle.pc_holdings.specs.State.{said}
+use Rattle.pc_account_history.specs.declared.entry.Entry.{Entry}
+use Rattle.pc_account_history.specs.Allowed.{is_allowed}
+use Rattle.pc_account_history.specs.Limits.{limit_passed}
+use Rattle.pc_account_holdings.specs.State.{said}
 use Rattle.pc_account.proofs.Settling.{settled-limit, settled-entry, settled-allowed}
 use Rattle.pc_account.proofs.planning.settle.Goals as goal
 

@@ -1,6 +1,6 @@
 use Rattle.std.proofs.Common.{ap, arith, add-one}
 use Rattle.pc_account.specs.Taking.{bytes_of_letter}
-use Rattle.pc_mailbox.proofs.Totals.{total-more}
+use Rattle.pc_tables.proofs.Totals.{total-more}
 use Rattle.pc_account.proofs.taking.bytes_of.Goals as goal
 
 pub loop-letter-preserved : goal.loop-letter-preserved

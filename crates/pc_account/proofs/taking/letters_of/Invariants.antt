@@ -1,5 +1,5 @@
 use Rattle.std.proofs.Common.{◌≡◌, map, take}
-use Rattle.pc_holdings.specs.State.{said}
+use Rattle.pc_account_holdings.specs.State.{said}
 use Rattle.pc_account.specs.Taking.{letter_of}
 use Rattle.pc_account.proofs.taking.letters_of.Given as goal
 

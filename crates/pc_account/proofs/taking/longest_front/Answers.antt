@@ -1,5 +1,5 @@
 use Rattle.std.proofs.Common.{◌-◌, ◌∙◌, sym, arith}
-use Rattle.pc_holdings.specs.State.{said}
+use Rattle.pc_account_holdings.specs.State.{said}
 use Rattle.pc_account.proofs.Waiting.{front-here, front-below}
 use Rattle.pc_account.proofs.taking.longest_front.Goals as goal
 

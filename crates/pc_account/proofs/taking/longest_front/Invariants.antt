@@ -1,5 +1,5 @@
 use Rattle.std.proofs.Common.{◌≡◌, ◌≤◌, length}
-use Rattle.pc_holdings.specs.State.{said}
+use Rattle.pc_account_holdings.specs.State.{said}
 use Rattle.pc_account.specs.Taking.{front_count}
 use Rattle.pc_account.proofs.taking.longest_front.Given as goal
 

@@ -1,5 +1,5 @@
 use Rattle.std.proofs.Common.{sym, ◌∙◌}
-use Rattle.pc_cache.proofs.Apart.{names-rise-differ}
+use Rattle.pc_cache.proofs.Orders.{names-rise-differ}
 use Rattle.pc_cache.proofs.differing.names_differ.Goals as goal
 
 pub returns-then-names_rise : goal.returns-then-names_rise

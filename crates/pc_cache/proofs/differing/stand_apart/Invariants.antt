@@ -1,5 +1,5 @@
 use Rattle.std.proofs.Common.{◌≡◌, length}
-use Rattle.pc_history.specs.Table.{same}
+use Rattle.pc_tables.specs.Table.{same}
 use Rattle.pc_cache_history.specs.Allowed.{are_different}
 use Rattle.pc_cache.proofs.differing.stand_apart.Given as goal
 

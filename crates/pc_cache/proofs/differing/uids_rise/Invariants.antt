@@ -1,5 +1,5 @@
 use Rattle.std.proofs.Common.{◌≡◌, map, drop}
-use Rattle.pc_history.specs.Allowed.{rises_from}
+use Rattle.pc_tables.specs.Order.{rises_from}
 use Rattle.pc_cache_history.specs.Entry.{uid_of}
 use Rattle.pc_cache.proofs.differing.uids_rise.Given as goal
 

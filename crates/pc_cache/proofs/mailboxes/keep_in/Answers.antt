@@ -1,7 +1,7 @@
 use Rattle.std.proofs.Common.{ℕ, List, rules}
 use Rattle.indexmap.proofs.CallerLemmas.{filter-RetainsPairs}
 use Rattle.pc_message.specs.declared.descriptor.Descriptor.{Descriptor}
-use Rattle.pc_history.specs.Table.{is_among}
+use Rattle.pc_tables.specs.Table.{is_among}
 use Rattle.pc_cache.proofs.mailboxes.keep_in.Goals as goal
 
 pub returns : goal.returns

@@ -1,6 +1,6 @@
 use Rattle.std.proofs.Common.{◌≡◌, ◌++◌, drop}
 use Rattle.std.specs.List.{filter}
-use Rattle.pc_history.specs.Table.{is_among}
+use Rattle.pc_tables.specs.Table.{is_among}
 use Rattle.pc_cache.proofs.mailboxes.names_in.Given as goal
 
 -- those that were found, and those still to come

@@ -1,5 +1,5 @@
 use Rattle.std.proofs.Common.{◌≡◌, ◌+◌, ◌*◌, ◌≤◌, drop}
-use Rattle.pc_history.specs.Table.{total}
+use Rattle.pc_tables.specs.Table.{total}
 use Rattle.pc_cache_history.specs.Allowed.{change_bytes, took_bytes}
 use Rattle.pc_cache.proofs.room.is_short.Given as goal
 

@@ -1,7 +1,7 @@
 use Rattle.std.proofs.Common.{ap, ◌∙◌, ◌+◌, arith, sym, add-one, take, ℕ, List}
-use Rattle.pc_history.specs.declared.kept.Listed.{Listed}
+use Rattle.pc_account_history.specs.declared.kept.Listed.{Listed}
 use Rattle.pc_mailbox.specs.Growth.{unlisted, unlisted_by_all}
-use Rattle.pc_mailbox.proofs.Totals.{total-more}
+use Rattle.pc_tables.proofs.Totals.{total-more}
 use Rattle.pc_mailbox.proofs.growth.count_unlisted_by_all.Goals as goal
 
 pub loop-entry-preserved : goal.loop-entry-preserved

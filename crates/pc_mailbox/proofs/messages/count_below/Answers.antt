@@ -1,13 +1,13 @@
 use Rattle.std.proofs.Common.{rules, arith}
 use Rattle.std.proofs.lemmas.List.Sorted.{IsPartitionPoint-from_clause, IsPartitionedBy-ltb}
-use Rattle.pc_history.specs.declared.kept.Kept.{Kept}
+use Rattle.pc_account_history.specs.declared.kept.Kept.{Kept}
 use Rattle.pc_mailbox.specs.Mailbox.{is_below}
-use Rattle.pc_mailbox.proofs.Search.{uids-rise, parted}
+use Rattle.pc_tables.proofs.Halves.{numbers-rise_by, parted}
 use Rattle.pc_mailbox.proofs.messages.count_below.Goals as goal
 
 pub returns : goal.returns
 returns c =
-    let rise = IsPartitionedBy-ltb (λ (kept : Kept). kept.uid) c.args.messages.now c.args.bound (uids-rise c.args.messages.now c.requires) in
+    let rise = IsPartitionedBy-ltb (λ (kept : Kept). kept.uid) c.args.messages.now c.args.bound (numbers-rise_by (λ (kept : Kept). kept.uid) c.args.messages.now c.requires) in
     let point = IsPartitionPoint-from_clause (is_below c.args.bound) c.args.messages.now c.partition_point.result c.partition_point.ensures.partitioned rise (λ a r q k. search rules) in
     let parts = parted (is_below c.args.bound) c.args.messages.now c.partition_point.result c.partition_point.ensures.bound (λ k d lt. point.0 k d (omega arith) lt) (λ k d le lt. point.1 k d le lt) in
     record { within = c.partition_point.ensures.bound; front = parts.0; back = parts.1 }

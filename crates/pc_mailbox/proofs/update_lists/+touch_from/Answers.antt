@@ -1,5 +1,5 @@
 use Rattle.std.proofs.Common.{true≢false, sym, ◌∙◌, refl, List, ℕ}
-use Rattle.pc_history.specs.declared.kept.Listed.{Listed}
+use Rattle.pc_account_history.specs.declared.kept.Listed.{Listed}
 use Rattle.pc_mailbox.specs.UpdateList.{are_on, touched_entry}
 use Rattle.pc_mailbox.proofs.Admitted.{back-end, restored, finished, still-on, all-set, on-err, on-ok, not-both}
 use Rattle.pc_mailbox.proofs.update_lists.+touch_from.Goals as goal

@@ -1,7 +1,7 @@
 use Rattle.std.proofs.Common.{ℕ, List, ap, ◌∙◌, ◌+◌, arith, sym, add-one, take, length}
-use Rattle.pc_history.specs.declared.kept.Listed.{Listed}
+use Rattle.pc_account_history.specs.declared.kept.Listed.{Listed}
 use Rattle.pc_mailbox.specs.UpdateList.{listed_in}
-use Rattle.pc_mailbox.proofs.Totals.{total-more}
+use Rattle.pc_tables.proofs.Totals.{total-more}
 use Rattle.pc_mailbox.proofs.update_lists.count_listed.Goals as goal
 
 pub loop-entry-preserved : goal.loop-entry-preserved

@@ -1,6 +1,6 @@
 use Rattle.std.proofs.Common.{sym, get_or}
-use Rattle.pc_history.specs.Step.{without}
-use Rattle.pc_mailbox.proofs.Places.{set-found, lookup-found, nowhere}
+use Rattle.pc_account_history.specs.Step.{without}
+use Rattle.pc_tables.proofs.Places.{set-found, lookup-found, nowhere}
 use Rattle.pc_mailbox.proofs.update_lists.forget.Goals as goal
 
 pub returns-in-Some : goal.returns-in-Some

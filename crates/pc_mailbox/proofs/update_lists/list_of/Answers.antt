@@ -1,5 +1,5 @@
 use Rattle.std.proofs.Common.{refl, sym, []}
-use Rattle.pc_mailbox.proofs.Places.{lookup-found, nowhere}
+use Rattle.pc_tables.proofs.Places.{lookup-found, nowhere}
 use Rattle.pc_mailbox.proofs.update_lists.list_of.Goals as goal
 
 pub returns-in_err-index : goal.returns-in_err-index

@@ -1,6 +1,6 @@
 use Rattle.std.proofs.Common.{◌∙◌, sym, ap, is_some}
 use Rattle.std.specs.Map.{lookup}
-use Rattle.pc_history.specs.Table.{same}
+use Rattle.pc_tables.specs.Table.{same}
 use Rattle.pc_office_holdings.proofs.Noted.{is_among-noted}
 use Rattle.pc_office.proofs.allowing.is_user.Goals as goal
 

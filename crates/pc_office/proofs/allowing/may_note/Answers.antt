@@ -1,6 +1,6 @@
 use Rattle.std.proofs.Common.{◌≡◌, ◌∙◌, sym, ap, ◌&&◌, Some, nat_le, lt-ltb, le-ltb}
 use Rattle.std.specs.Map.{lookup}
-use Rattle.pc_history.specs.Table.{same}
+use Rattle.pc_tables.specs.Table.{same}
 use Rattle.pc_office.proofs.Asked.{noted-found, noted-missing}
 use Rattle.pc_office.proofs.allowing.may_note.Goals as goal
 

@@ -1,6 +1,6 @@
 use Rattle.std.proofs.Common.{◌≡◌, ◌+◌, ◌*◌, ◌-◌, ◌^◌, min, length, drop, sym, ◌∙◌, ap, arith, Some, None, option_copied}
 use Rattle.std.specs.Map.{lookup}
-use Rattle.pc_history.specs.Table.{same}
+use Rattle.pc_tables.specs.Table.{same}
 use Rattle.pc_office_holdings.specs.Held.{weight_on_all}
 use Rattle.pc_office.specs.Limits.{board_count}
 use Rattle.pc_office.proofs.Filled.{weight-bounded, counted-board, filled-board, counted-other, filled-other, full-at-end}

@@ -1,35 +1,20 @@
-use Rattle.std.proofs.Common.{◌∙◌, ap, Err}
-use Rattle.pc_office_spelling.proofs.RecordLaws.{record_stuck, record_trails, record_found, left_of_record, left_of_stuck}
-use Rattle.pc_office_holdings.specs.Held.{record_in}
-use Rattle.pc_office_records.proofs.ReadRecord.{took_record, stuck_record, office_sound}
+use Rattle.pc_fields.proofs.Spelled.{is_within, is_read_of, if_ended}
+use Rattle.pc_office_spelling.proofs.Spelled.{records, records-spelled}
+use Rattle.pc_office_holdings.specs.Held.{record_in, AreAllCounted}
+use Rattle.pc_office_records.proofs.ReadRecord.{office_sound}
 use Rattle.pc_office_records.proofs.loading.load.Goals as goal
 
-pub overflow_sub-bytes : goal.overflow_sub-bytes
-overflow_sub-bytes c =
-    let took = took_record c.new-cursor.result c.args.bytes.now c.read_record-read.new.cursor c.left-left.result.now c.read_record-read.result c.in-Ok.holdings c.new-cursor.ensures c.left-left.ensures c.in-Ok.is c.read_record-read.ensures.read in
-    left_of_record c.args.bytes.now c.left-left.result.now (record_in c.in-Ok.holdings) took
+pub end-requires : goal.end-requires
+end-requires c = is_within records records-spelled record_in c.read_record-read.result c.new-cursor.ensures c.left.ensures c.read_record-read.ensures.read
 
-pub returns-then-left-gt0-clause-fault : goal.returns-then-left-gt0-clause-fault
-returns-then-left-gt0-clause-fault c =
-    let took = took_record c.new-cursor.result c.args.bytes.now c.read_record-read.new.cursor c.left-left.result.now c.read_record-read.result c.in-Ok.holdings c.new-cursor.ensures c.left-left.ensures c.in-Ok.is c.read_record-read.ensures.read in
-    rw c.fault_at.ensures (record_trails c.args.bytes.now c.left-left.result.now (record_in c.in-Ok.holdings) took c.if-left-gt0.true)
+pub returns-clause-found : goal.returns-clause-found
+returns-clause-found c = (is_read_of records records-spelled record_in c.read_record-read.result c.new-cursor.ensures c.left.ensures c.read_record-read.ensures.read c.end.ensures).found
 
-pub returns-else-left-gt0-clause-found : goal.returns-else-left-gt0-clause-found
-returns-else-left-gt0-clause-found c =
-    let took = took_record c.new-cursor.result c.args.bytes.now c.read_record-read.new.cursor c.left-left.result.now c.read_record-read.result c.in-Ok.holdings c.new-cursor.ensures c.left-left.ensures c.in-Ok.is c.read_record-read.ensures.read in
-    record_found c.args.bytes.now c.left-left.result.now (record_in c.in-Ok.holdings) took c.if-left-gt0.false
+pub returns-clause-sound : goal.returns-clause-sound
+returns-clause-sound c = office_sound c.args.bytes.now c.end.result (returns-clause-found c) (if_ended AreAllCounted c.read_record-read.result _ _ c.end.result c.end.ensures c.read_record-read.ensures.counted)
 
-pub returns-else-left-gt0-clause-sound : goal.returns-else-left-gt0-clause-sound
-returns-else-left-gt0-clause-sound c =
-    let took = took_record c.new-cursor.result c.args.bytes.now c.read_record-read.new.cursor c.left-left.result.now c.read_record-read.result c.in-Ok.holdings c.new-cursor.ensures c.left-left.ensures c.in-Ok.is c.read_record-read.ensures.read in
-    office_sound c.args.bytes.now c.left-left.result.now c.in-Ok.holdings c.read_record-read.result took c.if-left-gt0.false c.in-Ok.is c.read_record-read.ensures.counted
+pub returns-clause-fault : goal.returns-clause-fault
+returns-clause-fault c = (is_read_of records records-spelled record_in c.read_record-read.result c.new-cursor.ensures c.left.ensures c.read_record-read.ensures.read c.end.ensures).fault
 
-pub overflow_sub-bytes-in-NoField : goal.overflow_sub-bytes-in-NoField
-overflow_sub-bytes-in-NoField c =
-    let stuck = stuck_record c.new-cursor.result c.args.bytes.now c.read_record-read.new.cursor c.left-left.result.now c.read_record-read.result c.new-cursor.ensures c.left-left.ensures (c.in-Err.is ∙ ap Err c.in-NoField.is) c.read_record-read.ensures.read in
-    left_of_stuck c.args.bytes.now c.left-left.result.now stuck
-
-pub returns-in-NoField-clause-fault : goal.returns-in-NoField-clause-fault
-returns-in-NoField-clause-fault c =
-    let stuck = stuck_record c.new-cursor.result c.args.bytes.now c.read_record-read.new.cursor c.left-left.result.now c.read_record-read.result c.new-cursor.ensures c.left-left.ensures (c.in-Err.is ∙ ap Err c.in-NoField.is) c.read_record-read.ensures.read in
-    rw c.fault_at-in-NoField.ensures (record_stuck c.args.bytes.now c.left-left.result.now stuck)
+pub returns-clause-within : goal.returns-clause-within
+returns-clause-within c = (is_read_of records records-spelled record_in c.read_record-read.result c.new-cursor.ensures c.left.ensures c.read_record-read.ensures.read c.end.ensures).within

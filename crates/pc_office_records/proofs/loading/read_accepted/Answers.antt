@@ -1,6 +1,6 @@
 use Rattle.std.proofs.Common.{sym, map, ◌∙◌}
-use Rattle.pc_spelling.specs.Fields.{u64_kind, within}
-use Rattle.pc_spelling.proofs.TestedFields.{field_fails}
+use Rattle.pc_fields.specs.Fields.{u64_kind, within}
+use Rattle.pc_fields.proofs.TestedFields.{field_fails}
 use Rattle.pc_office_holdings.specs.Held.{noted_of}
 use Rattle.pc_office_records.specs.Loading.{is_accepted}
 use Rattle.pc_office_records.proofs.ReadTables.{field_ahead}

@@ -1,7 +1,7 @@
 use Rattle.std.proofs.Common.{ℕ, List, Ok, refl, sym, subst, map}
-use Rattle.pc_spelling.specs.Format.{Reads}
-use Rattle.pc_spelling.proofs.Formats.{nothing_more, after_field, no_field, after_part, no_part}
-use Rattle.pc_spelling.proofs.MessageReads.{match_err}
+use Rattle.pc_fields.specs.Format.{Reads}
+use Rattle.pc_fields.proofs.Formats.{nothing_more, after_field, no_field, after_part, no_part}
+use Rattle.pc_fields.proofs.Follows.{match_err}
 use Rattle.pc_office_spelling.specs.RecordFormat.{record_format}
 use Rattle.pc_office_spelling.proofs.GoodRecord.{with_users, with_addresses, with_boards}
 use Rattle.pc_office_holdings.specs.Held.{noted_of}

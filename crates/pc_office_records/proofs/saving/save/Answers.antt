@@ -1,6 +1,6 @@
 use Rattle.std.proofs.Common.{◌++◌, map, ap, ◌∙◌}
 use Rattle.std.specs.List.{concat}
-use Rattle.pc_spelling.specs.Spelling.{u64_field, short_list, long_list}
+use Rattle.pc_fields.specs.FieldBytes.{u64_field, short_list, long_list}
 use Rattle.pc_office_spelling.specs.RecordSpelling.{user_fields, address_fields, board_fields, kept_fields}
 use Rattle.pc_office_holdings.specs.Held.{noted_of, record_in}
 use Rattle.pc_office_records.proofs.Written.{on_ok, all-written, few-messages, few-kept, few-targets}

@@ -1,6 +1,6 @@
 use Rattle.std.proofs.Common.{◌≡◌, ℕ, List, ◌∷◌, ◌++◌, subst, rules}
 use Rattle.std.specs.List.{flat_map, concat}
-use Rattle.pc_spelling.proofs.Loops.{fields_next}
+use Rattle.pc_fields.proofs.Loops.{fields_next}
 use Rattle.pc_office_spelling.specs.RecordSpelling.{board_fields}
 use Rattle.pc_office_records.specs.Saving.{HaveFewMessages}
 use Rattle.pc_office_records.proofs.saving.write_each_board.Goals as goal

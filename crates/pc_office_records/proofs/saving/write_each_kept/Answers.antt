@@ -1,6 +1,6 @@
 use Rattle.std.proofs.Common.{◌<◌, ◌++◌, length}
 use Rattle.std.specs.List.{flat_map, concat}
-use Rattle.pc_spelling.proofs.Loops.{fields_more}
+use Rattle.pc_fields.proofs.Loops.{fields_more}
 use Rattle.pc_office_history.specs.declared.kept.KeptMail.{KeptMail}
 use Rattle.pc_office_spelling.specs.RecordSpelling.{kept_fields}
 use Rattle.pc_office_records.proofs.Written.{each-dropped}

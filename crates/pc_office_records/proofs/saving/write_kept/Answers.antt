@@ -1,6 +1,6 @@
 use Rattle.std.proofs.Common.{◌++◌, ap, ◌∙◌}
 use Rattle.std.specs.List.{concat}
-use Rattle.pc_spelling.specs.Spelling.{u64_field, short_list, message_fields}
+use Rattle.pc_fields.specs.FieldBytes.{u64_field, short_list, message_fields}
 use Rattle.pc_office_spelling.specs.RecordSpelling.{target_fields}
 use Rattle.pc_office_records.proofs.Written.{on_ok, kept-written}
 use Rattle.pc_office_records.proofs.saving.write_kept.Goals as goal

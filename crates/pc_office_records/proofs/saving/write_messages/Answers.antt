@@ -1,7 +1,7 @@
 use Rattle.std.proofs.Common.{◌++◌}
 use Rattle.std.specs.List.{flat_map, concat}
-use Rattle.pc_spelling.specs.Spelling.{message_fields}
-use Rattle.pc_spelling.proofs.Loops.{fields_more}
+use Rattle.pc_fields.specs.FieldBytes.{message_fields}
+use Rattle.pc_fields.proofs.Loops.{fields_more}
 use Rattle.pc_office_records.proofs.saving.write_messages.Goals as goal
 
 pub loop-message-preserved : goal.loop-message-preserved

@@ -1,6 +1,6 @@
 use Rattle.std.proofs.Common.{◌≡◌, ◌++◌, drop}
 use Rattle.std.specs.List.{flat_map, concat}
-use Rattle.pc_spelling.specs.Spelling.{message_fields}
+use Rattle.pc_fields.specs.FieldBytes.{message_fields}
 use Rattle.pc_office_records.proofs.saving.write_messages.Given as goal
 
 -- the messages that are left make the list whole

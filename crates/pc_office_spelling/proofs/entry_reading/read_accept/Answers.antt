@@ -1,7 +1,7 @@
 use Rattle.pc_office_history.specs.declared.entry.OfficeEntry.TheVariants.{Accept}
-use Rattle.pc_spelling.specs.Format.{ends, bind}
-use Rattle.pc_spelling.specs.EntryFormat.{message_format}
-use Rattle.pc_spelling.proofs.Formats.{nothing_more, after_part, no_part}
+use Rattle.pc_fields.specs.Format.{ends, bind}
+use Rattle.pc_fields.specs.MessageFormat.{message_format}
+use Rattle.pc_fields.proofs.Formats.{nothing_more, after_part, no_part}
 use Rattle.pc_office_spelling.proofs.entry_reading.read_accept.Goals as goal
 
 pub returns-in_err-names : goal.returns-in_err-names

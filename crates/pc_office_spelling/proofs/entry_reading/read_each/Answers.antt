@@ -1,7 +1,7 @@
 use Rattle.std.proofs.Common.{refl, arith}
 use Rattle.pc_office_spelling.specs.EntryFormat.{name_format}
-use Rattle.pc_spelling.proofs.Formats.{nothing_more, after_field, no_field}
-use Rattle.pc_spelling.proofs.ReadLoops.{repeated_first, repeated_more, repeated_halt, repeated_last}
+use Rattle.pc_fields.proofs.Formats.{nothing_more, after_field, no_field}
+use Rattle.pc_fields.proofs.ReadLoops.{repeated_first, repeated_more, repeated_halt, repeated_last}
 use Rattle.pc_office_spelling.proofs.entry_reading.read_each.Goals as goal
 
 pub loop-taken-init : goal.loop-taken-init

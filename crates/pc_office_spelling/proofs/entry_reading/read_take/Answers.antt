@@ -1,4 +1,4 @@
-use Rattle.pc_spelling.proofs.Formats.{nothing_more, after_field, no_field}
+use Rattle.pc_fields.proofs.Formats.{nothing_more, after_field, no_field}
 use Rattle.pc_office_spelling.proofs.entry_reading.read_take.Goals as goal
 
 pub returns-in_err-address : goal.returns-in_err-address

@@ -1,4 +1,4 @@
-use Rattle.pc_spelling.proofs.Formats.{after_field, no_field}
+use Rattle.pc_fields.proofs.Formats.{after_field, no_field}
 use Rattle.pc_office_spelling.proofs.entry_reading.read_whole.Goals as goal
 
 pub returns-in_err-tag : goal.returns-in_err-tag

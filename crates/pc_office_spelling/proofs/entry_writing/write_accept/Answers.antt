@@ -1,7 +1,7 @@
 use Rattle.std.proofs.Common.{◌≡◌, ℕ, List, ◌++◌, OnOk, sym, ap, subst, ◌∙◌, append_assoc}
 use Rattle.std.specs.List.{concat}
-use Rattle.pc_spelling.specs.Spelling.{message_fields}
-use Rattle.pc_spelling.proofs.Loops.{concat-append}
+use Rattle.pc_fields.specs.FieldBytes.{message_fields}
+use Rattle.pc_fields.proofs.Loops.{concat-append}
 use Rattle.pc_office_spelling.specs.Spelling.{names_fields}
 use Rattle.pc_office_spelling.proofs.entry_writing.write_accept.Goals as goal
 

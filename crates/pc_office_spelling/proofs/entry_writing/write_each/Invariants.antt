@@ -1,6 +1,6 @@
 use Rattle.std.proofs.Common.{◌≡◌, ◌++◌, map, drop}
 use Rattle.std.specs.List.{concat}
-use Rattle.pc_spelling.specs.Spelling.{name_field}
+use Rattle.pc_fields.specs.FieldBytes.{name_field}
 use Rattle.pc_office_spelling.proofs.entry_writing.write_each.Given as goal
 
 -- the names that are left make the list whole

@@ -1,5 +1,5 @@
 use Rattle.std.proofs.Common.{subst}
-use Rattle.pc_holdings.specs.State.{said}
+use Rattle.pc_account_holdings.specs.State.{said}
 use Rattle.pc_session.specs.declared.task.Task.{Task}
 use Rattle.pc_session.specs.Tasks.{WishesRightly}
 use Rattle.pc_session.proofs.answering.carry_out.Goals as goal

@@ -1,6 +1,6 @@
 use Rattle.std.proofs.Common.{◌≡◌, map, sym, subst}
-use Rattle.pc_history.specs.History.{known}
-use Rattle.pc_holdings.specs.State.{State, StandsFor}
+use Rattle.pc_account_history.specs.History.{known}
+use Rattle.pc_account_holdings.specs.State.{State, StandsFor}
 use Rattle.pc_account.specs.Answers.{client_row}
 use Rattle.pc_account.specs.declared.answer.Answer.TheVariants.{Clients}
 use Rattle.pc_session.proofs.Asked.{clients-listed}

@@ -1,6 +1,6 @@
 use Rattle.std.proofs.Common.{sym, subst}
-use Rattle.pc_history.specs.History.{known}
-use Rattle.pc_holdings.specs.State.{State, StandsFor}
+use Rattle.pc_account_history.specs.History.{known}
+use Rattle.pc_account_holdings.specs.State.{State, StandsFor}
 use Rattle.pc_account.specs.Answers.{answered}
 use Rattle.pc_account.specs.declared.answer.Question.TheVariants as question
 use Rattle.pc_session.proofs.Asked.{selected}

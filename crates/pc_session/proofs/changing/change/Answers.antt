@@ -1,9 +1,9 @@
 use Rattle.std.proofs.Common.{Option, Ok, sym, subst}
 use Rattle.std.proofs.lemmas.Result.{err_from_is_err_and}
-use Rattle.pc_history.specs.declared.entry.Entry.{Entry}
-use Rattle.pc_history.specs.History.{known}
-use Rattle.pc_holdings.specs.State.{State, StandsFor}
-use Rattle.pc_account.specs.Answers.{Tells}
+use Rattle.pc_base.specs.AskFault.{Tells}
+use Rattle.pc_account_history.specs.declared.entry.Entry.{Entry}
+use Rattle.pc_account_history.specs.History.{known}
+use Rattle.pc_account_holdings.specs.State.{State, StandsFor}
 use Rattle.pc_account.specs.Plan.{planned}
 use Rattle.pc_session.proofs.Coming.{held-comes, made-comes, unmade-comes, unplanned-comes}
 use Rattle.pc_session.proofs.changing.change.Goals as goal

@@ -1,6 +1,6 @@
 use Rattle.std.proofs.Common.{◌∙◌, Ok, Err, sym, refl, subst}
-use Rattle.pc_history.specs.History.{known}
-use Rattle.pc_holdings.specs.State.{State, StandsFor}
+use Rattle.pc_account_history.specs.History.{known}
+use Rattle.pc_account_holdings.specs.State.{State, StandsFor}
 use Rattle.pc_account.specs.Plan.{planned}
 use Rattle.pc_account.specs.declared.wish.Wish.TheVariants.{MakeClient}
 use Rattle.pc_session.specs.Answering.{Comes}

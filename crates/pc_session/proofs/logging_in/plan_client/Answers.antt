@@ -1,7 +1,7 @@
 use Rattle.std.proofs.Common.{◌≡◌, true, Option, IfSome, subst}
-use Rattle.pc_history.specs.declared.entry.Entry.{Entry}
-use Rattle.pc_holdings.specs.State.{State}
-use Rattle.pc_records.specs.Legal.{accepts}
+use Rattle.pc_account_history.specs.declared.entry.Entry.{Entry}
+use Rattle.pc_account_holdings.specs.State.{State}
+use Rattle.pc_account_records.specs.Legal.{accepts}
 use Rattle.pc_session.proofs.logging_in.plan_client.Goals as goal
 
 pub returns-in-Some-clause-accepted : goal.returns-in-Some-clause-accepted

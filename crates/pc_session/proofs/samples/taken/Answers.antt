@@ -1,6 +1,6 @@
 -- Each computes.
 use Rattle.std.proofs.Common.{refl}
-use Rattle.pc_spelling.specs.Spelling as spelling
+use Rattle.pc_fields.specs.FieldBytes as spelling
 use Rattle.pc_session.specs.Repository.{answer_of, answer_in_box}
 use Rattle.pc_session.proofs.samples.taken.Goals as goal
 

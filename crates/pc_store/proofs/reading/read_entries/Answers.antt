@@ -36,6 +36,16 @@ loop-trail-preserved g c =
     record {
       reading = reading_more g.M.Machine g.D.Disk.tells area c.args.opening.now c.loop-trail.opening c.next_entry.new.opening c.args.state.now c.loop-trail.state c.next_entry.new.state c.args.first c.loop-trail.gate c.loop-trail.number c.loop-trail.bytes c.in-Some.field-0.size c.from.result c.loop-trail.trail.items c.push.new.self.items c.in_ok-entry.field-0 c.in-Some.field-0
           g.met.M.Machine.step_is_legal g.met.M.Machine.step_next c.loop-trail.invariant.reading c.in-Some.is next c.in_ok-push.ensures.items refl c.from.ensures;
-      untouched = untouched-again g.D.Disk.tells g.D.Disk.tells_due g.D.Disk.seen g.D.Disk.may_leave g.D.Disk.left_since g.D.Disk.moment g.D.Disk.due g.D.Disk.faults g.D.Disk.spare_calls g.D.Disk.spare_bytes c.args.disk.now c.loop-trail.disk c.next_entry.new.disk c.loop-trail.invariant.untouched c.next_entry.ensures.untouched;
+      untouched = untouched-again g.D.Disk c.args.disk.now c.loop-trail.disk c.next_entry.new.disk c.loop-trail.invariant.untouched c.next_entry.ensures.untouched;
       taken = omega (arith, c.loop-trail.invariant.taken, more);
     }
+
+pub returns-in_err-entry-clause-most_taken : goal.returns-in_err-entry-clause-most_taken
+returns-in_err-entry-clause-most_taken g c =
+    let taken = c.loop-trail.invariant.reading.taken in
+    omega (arith, c.loop-trail.invariant.taken, taken.gate, taken.entries, taken.bytes, taken.most_entries, taken.most_bytes, c.requires.fresh, c.requires.none, c.next_entry.ensures.most_taken)
+
+pub returns-clause-most_taken : goal.returns-clause-most_taken
+returns-clause-most_taken g c =
+    let taken = c.loop-trail.invariant.reading.taken in
+    omega (arith, c.loop-trail.invariant.taken, taken.gate, taken.entries, taken.bytes, taken.most_entries, taken.most_bytes, c.requires.fresh, c.requires.none, c.next_entry.ensures.most_taken)

@@ -7,7 +7,7 @@ use Rattle.pc_store.proofs.reading.read_entries.Given as goal
 abbrev pub invariant-loop-trail : goal.invariant-loop-trail
 invariant-loop-trail g l = record {
   reading : IsReading g.M.Machine g.D.Disk.tells (area_of 0 (g.D.Disk.seen l.initial.disk)) l.initial.opening l.opening l.initial.state l.state l.fn.first l.trail.items l.gate l.number l.bytes;
-  untouched : Untouched g.D.Disk.tells g.D.Disk.tells_due g.D.Disk.seen g.D.Disk.may_leave g.D.Disk.left_since g.D.Disk.moment g.D.Disk.due g.D.Disk.faults g.D.Disk.spare_calls g.D.Disk.spare_bytes l.initial.disk l.disk;
+  untouched : Untouched g.D.Disk l.initial.disk l.disk;
   taken : g.D.Disk.taken l.disk + l.initial.opening.reached.gate ≤ g.D.Disk.taken l.initial.disk + l.opening.reached.gate;
 }
 

@@ -1,10 +1,10 @@
 use Rattle.std.proofs.Common.{◌≡◌, ◌≤◌, IsTrue, sym, ap, ◌∙◌, subst, arith}
-use Rattle.pc_history.specs.History.{◌▸◌}
-use Rattle.pc_history.specs.Legal.{IsCanonical}
-use Rattle.pc_holdings.specs.State.{State, said, may_follow, step, StandsFor}
-use Rattle.pc_holdings.specs.Following.{canonical-after}
+use Rattle.pc_base.proofs.Results.{from-ok}
+use Rattle.pc_account_history.specs.History.{◌▸◌}
+use Rattle.pc_account_history.specs.Legal.{IsCanonical}
+use Rattle.pc_account_holdings.specs.State.{State, said, may_follow, step, StandsFor}
+use Rattle.pc_account_holdings.specs.Following.{canonical-after}
 use Rattle.pc_account.proofs.Standing.{StandsFor-step}
-use Rattle.pc_holdings.proofs.States.{from-ok}
 use Rattle.pc_account.proofs.account.Account.apply.Goals as goal
 
 pub invariant_of-self-else-is_err : goal.invariant_of-self-else-is_err

@@ -1,8 +1,8 @@
 use Rattle.std.proofs.Common.{ap, ◌∙◌}
 use Rattle.std.specs.Map.{lookup}
-use Rattle.pc_history.specs.Table.{same}
-use Rattle.pc_history.specs.Known.{Known}
-use Rattle.pc_holdings.specs.State.{State}
+use Rattle.pc_tables.specs.Table.{same}
+use Rattle.pc_account_history.specs.Known.{Known}
+use Rattle.pc_account_holdings.specs.State.{State}
 use Rattle.pc_account.proofs.Standing.{said_is_known}
 use Rattle.pc_account.proofs.account.Account.birth.Goals as goal
 

@@ -1,7 +1,7 @@
 use Rattle.std.proofs.Common.{ap, ◌∙◌}
-use Rattle.pc_history.specs.Allowed.{is_mailbox}
-use Rattle.pc_history.specs.Known.{Known}
-use Rattle.pc_holdings.specs.State.{State, said}
+use Rattle.pc_account_history.specs.Allowed.{is_mailbox}
+use Rattle.pc_account_history.specs.Known.{Known}
+use Rattle.pc_account_holdings.specs.State.{State, said}
 use Rattle.pc_account.proofs.Standing.{said_is_known}
 use Rattle.pc_account.proofs.account.Account.has_mailbox.Goals as goal
 

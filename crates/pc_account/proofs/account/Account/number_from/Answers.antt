@@ -1,6 +1,6 @@
 use Rattle.std.proofs.Common.{◌≡◌, true, arith}
-use Rattle.pc_records.specs.Numbered.{suits}
-use Rattle.pc_records.specs.Renumbered.{canonical_numbered}
+use Rattle.pc_account_records.specs.Numbered.{suits}
+use Rattle.pc_account_records.specs.Renumbered.{canonical_numbered}
 use Rattle.pc_account.proofs.account.Account.number_from.Goals as goal
 
 pub invariant_of-self : goal.invariant_of-self

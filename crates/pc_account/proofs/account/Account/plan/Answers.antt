@@ -1,8 +1,8 @@
 use Rattle.std.proofs.Common.{subst}
-use Rattle.pc_history.specs.Known.{Known}
-use Rattle.pc_holdings.specs.State.{State, said}
+use Rattle.pc_base.specs.AskFault.{Tells}
+use Rattle.pc_account_history.specs.Known.{Known}
+use Rattle.pc_account_holdings.specs.State.{State, said}
 use Rattle.pc_account.specs.Plan.{planned}
-use Rattle.pc_account.specs.Answers.{Tells}
 use Rattle.pc_account.proofs.Accepted.{plan-accepted}
 use Rattle.pc_account.proofs.Standing.{said_is_known}
 use Rattle.pc_account.proofs.Settling.{plan-follows}

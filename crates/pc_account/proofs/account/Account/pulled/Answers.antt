@@ -1,6 +1,6 @@
 use Rattle.std.proofs.Common.{ap, ◌∙◌}
-use Rattle.pc_history.specs.Known.{Known}
-use Rattle.pc_holdings.specs.State.{State}
+use Rattle.pc_account_history.specs.Known.{Known}
+use Rattle.pc_account_holdings.specs.State.{State}
 use Rattle.pc_account.proofs.Standing.{said_is_known}
 use Rattle.pc_account.proofs.account.Account.pulled.Goals as goal
 

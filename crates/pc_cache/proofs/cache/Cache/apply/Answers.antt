@@ -1,4 +1,5 @@
 use Rattle.std.proofs.Common.{IsTrue, sym, ap, ◌∙◌, subst}
+use Rattle.pc_base.proofs.Results.{from-ok}
 use Rattle.pc_cache_history.specs.Record.{CacheRecord}
 use Rattle.pc_cache_history.specs.Known.{said_by}
 use Rattle.pc_cache_history.specs.History.{◌▻◌}
@@ -6,7 +7,6 @@ use Rattle.pc_cache_history.specs.Allowed.{is_allowed}
 use Rattle.pc_cache_history.specs.Step.{after}
 use Rattle.pc_cache_history.specs.Legal.{IsCanonical}
 use Rattle.pc_cache_history.proofs.FormedAfter.{IsCanonical-after}
-use Rattle.pc_holdings.proofs.States.{from-ok}
 use Rattle.pc_cache.specs.State.{StandsFor}
 use Rattle.pc_cache.proofs.Standing.{StandsFor-after}
 use Rattle.pc_cache.proofs.cache.Cache.apply.Goals as goal

@@ -1,6 +1,6 @@
 use Rattle.std.proofs.Common.{sym, ap, ◌∙◌, subst, not, ◌==◌, ◌<◌}
 use Rattle.pc_message.specs.declared.descriptor.Descriptor.{Descriptor}
-use Rattle.pc_history.proofs.Formed.{Ordered-filter}
+use Rattle.pc_tables.proofs.Order.{Ordered-filter}
 use Rattle.pc_cache_history.specs.Effect.{other_descriptors}
 use Rattle.pc_cache_history.specs.Legal.{AreRising}
 use Rattle.pc_cache.proofs.Places.{place-found, has_at, remove-there, none-there-to-remove}

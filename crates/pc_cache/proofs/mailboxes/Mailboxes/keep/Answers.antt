@@ -1,7 +1,7 @@
 use Rattle.std.proofs.Common.{ℕ, List, sym, ap, ◌∙◌}
 use Rattle.std.specs.List.{filter}
 use Rattle.std.specs.Map.{keys_of}
-use Rattle.pc_history.specs.Table.{is_among}
+use Rattle.pc_tables.specs.Table.{is_among}
 use Rattle.pc_cache_history.specs.Step.{under}
 use Rattle.pc_cache_history.proofs.Agreement.{keys-under}
 use Rattle.pc_cache.proofs.Sets.{under-same}

@@ -1,10 +1,11 @@
 use Rattle.std.proofs.Common.{List, ap, length, sym, ◌∙◌}
 use Rattle.std.specs.Map.{set_value}
 use Rattle.pc_message.specs.declared.descriptor.Descriptor.{Descriptor}
-use Rattle.pc_history.specs.Table.{same}
+use Rattle.pc_tables.specs.Table.{same}
 use Rattle.pc_cache_history.specs.Effect.{with_changes}
 use Rattle.pc_cache.specs.Mailboxes.{Table, found_in}
-use Rattle.pc_cache.proofs.Counted.{unset, kept-set}
+use Rattle.pc_tables.proofs.Table.{unset}
+use Rattle.pc_cache.proofs.Counted.{kept-set}
 use Rattle.pc_cache.proofs.mailboxes.Mailboxes.take_there.Goals as goal
 
 pub returns-in_default : goal.returns-in_default

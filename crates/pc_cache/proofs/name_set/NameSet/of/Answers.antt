@@ -1,6 +1,6 @@
 use Rattle.std.proofs.Common.{◌||◌, ◌+◌, drop, sym, ap, ◌∙◌, ◌∷◌}
 use Rattle.std.proofs.lemmas.List.{drop_more}
-use Rattle.pc_history.specs.Table.{is_among}
+use Rattle.pc_tables.specs.Table.{is_among}
 use Rattle.pc_cache.proofs.Sets.{set-step}
 use Rattle.pc_cache.proofs.name_set.NameSet.of.Goals as goal
 

@@ -1,5 +1,5 @@
 use Rattle.std.proofs.Common.{◌≡◌, ℕ, List, ◌||◌, drop}
-use Rattle.pc_history.specs.Table.{is_among}
+use Rattle.pc_tables.specs.Table.{is_among}
 use Rattle.pc_cache.proofs.name_set.NameSet.of.Given as goal
 
 -- the names in the set, and those still to come

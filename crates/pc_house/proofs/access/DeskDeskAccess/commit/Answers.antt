@@ -1,6 +1,6 @@
 use Rattle.std.proofs.Common.{ℕ, ◌-◌, List, Option, Ok, Err, ap, subst, ◌∙◌}
 use Rattle.std.proofs.lemmas.Result.{err_from_is_err_and}
-use Rattle.pc_records.specs.Legal.{accepts}
+use Rattle.pc_account_records.specs.Legal.{accepts}
 use Rattle.pc_session.specs.Desk.{Are}
 use Rattle.pc_house.specs.Desk.{DeskValue}
 use Rattle.pc_house.specs.Sessions.{latest_but, latest_in}

@@ -1,5 +1,5 @@
 use Rattle.std.proofs.Common.{◌≡◌, ◌∙◌, ℕ, ◌+◌, ◌-◌, ◌<◌, slice_get, ap, sym, subst, arith}
-use Rattle.pc_history.specs.History.{start}
+use Rattle.pc_account_history.specs.History.{start}
 use Rattle.pc_session.specs.Desk.{entry_at}
 use Rattle.pc_house.specs.Base.{base_of}
 use Rattle.pc_house.specs.Desk.{history_of}

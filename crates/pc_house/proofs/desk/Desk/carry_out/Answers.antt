@@ -1,9 +1,9 @@
 use Rattle.std.proofs.Common.{Option, Ok, sym, subst}
 use Rattle.std.proofs.lemmas.Result.{err_from_is_err_and}
-use Rattle.pc_history.specs.declared.entry.Entry.{Entry}
-use Rattle.pc_history.specs.History.{known}
-use Rattle.pc_holdings.specs.State.{State, StandsFor, said}
-use Rattle.pc_account.specs.Answers.{Tells}
+use Rattle.pc_base.specs.AskFault.{Tells}
+use Rattle.pc_account_history.specs.declared.entry.Entry.{Entry}
+use Rattle.pc_account_history.specs.History.{known}
+use Rattle.pc_account_holdings.specs.State.{State, StandsFor, said}
 use Rattle.pc_account.specs.Plan.{planned}
 use Rattle.pc_house.specs.Desk.{told_by}
 use Rattle.pc_house.proofs.Enrolments.{made_carries, refused_carries, unmade_carries}

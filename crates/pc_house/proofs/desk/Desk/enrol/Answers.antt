@@ -1,6 +1,6 @@
 use Rattle.std.proofs.Common.{ℕ, List, Ok, Err, refl, ap, subst, ◌∙◌}
 use Rattle.std.proofs.lemmas.Result.{err_from_is_err_and}
-use Rattle.pc_history.specs.History.{known}
+use Rattle.pc_account_history.specs.History.{known}
 use Rattle.pc_account.specs.Digest.{digest_of}
 use Rattle.pc_account.specs.Plan.{planned}
 use Rattle.pc_account.specs.declared.wish.Wish.TheVariants.{MakeMailbox, Password}

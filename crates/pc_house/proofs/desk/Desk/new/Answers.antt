@@ -1,5 +1,5 @@
 use Rattle.std.proofs.Common.{ap, ◌∙◌, lit≤}
-use Rattle.pc_spelling.specs.Spelling.{spelled_record}
+use Rattle.pc_account_spelling.specs.Spelling.{spelled_record}
 use Rattle.pc_house.specs.Base.{base_is}
 use Rattle.pc_house.proofs.Standing.{replay_saved, replay_stands, replay_kept}
 use Rattle.pc_house.proofs.desk.Desk.new.Goals as goal

@@ -1,5 +1,5 @@
 use Rattle.std.proofs.Common.{◌≡◌, rules, ◌∙◌, length, ap}
-use Rattle.pc_history.specs.declared.kept.Kept.{Kept}
+use Rattle.pc_account_history.specs.declared.kept.Kept.{Kept}
 use Rattle.std.proofs.Common.{List}
 use Rattle.pc_mailbox.proofs.Histories.{messages-known}
 use Rattle.pc_mailbox.proofs.mailbox.Mailbox.count.Goals as goal

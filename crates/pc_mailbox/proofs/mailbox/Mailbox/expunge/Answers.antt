@@ -1,5 +1,5 @@
 use Rattle.std.proofs.Common.{◌≡◌, ap, sym, ◌∙◌, arith, length, drop, refl}
-use Rattle.pc_history.proofs.Numbers.{length-filter-le}
+use Rattle.pc_tables.proofs.Lists.{length-filter-le}
 use Rattle.pc_mailbox.specs.Mailbox.{is_deleted, deleted, weight_of_all}
 use Rattle.pc_mailbox.proofs.Holds.{IsMailbox-expunge, rise-deleted, few-remaining, short-take, whole, length-uids}
 use Rattle.pc_mailbox.proofs.mailbox.Mailbox.expunge.Goals as goal

@@ -1,5 +1,5 @@
 use Rattle.std.proofs.Common.{◌∙◌, ap}
-use Rattle.pc_history.specs.Record.{MailboxRecord}
+use Rattle.pc_account_history.specs.Record.{MailboxRecord}
 use Rattle.pc_mailbox.proofs.Histories.{highest-known}
 use Rattle.pc_mailbox.proofs.mailbox.Mailbox.highest.Goals as goal
 

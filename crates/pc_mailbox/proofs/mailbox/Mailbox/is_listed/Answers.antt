@@ -1,5 +1,5 @@
 use Rattle.std.proofs.Common.{◌≡◌, rules, ◌∙◌}
-use Rattle.pc_history.specs.Record.{list_of, stamp_at}
+use Rattle.pc_account_history.specs.Record.{list_of, stamp_at}
 use Rattle.pc_mailbox.proofs.Histories.{stamp-known}
 use Rattle.pc_mailbox.proofs.mailbox.Mailbox.is_listed.Goals as goal
 

@@ -1,6 +1,6 @@
 use Rattle.std.proofs.Common.{◌≡◌, rules, ◌∙◌, length, ap, List}
-use Rattle.pc_history.specs.declared.kept.Listed.{Listed}
-use Rattle.pc_history.specs.Record.{list_of}
+use Rattle.pc_account_history.specs.declared.kept.Listed.{Listed}
+use Rattle.pc_account_history.specs.Record.{list_of}
 use Rattle.pc_mailbox.proofs.Histories.{changes-known}
 use Rattle.pc_mailbox.proofs.mailbox.Mailbox.listed_of.Goals as goal
 

@@ -1,5 +1,5 @@
 use Rattle.std.proofs.Common.{◌≡◌, true, sym, ◌∙◌, subst, List, true≢false}
-use Rattle.pc_history.specs.declared.kept.Listed.{Listed}
+use Rattle.pc_account_history.specs.declared.kept.Listed.{Listed}
 use Rattle.pc_mailbox.specs.UpdateList.{is_on}
 use Rattle.pc_mailbox.proofs.Stamps.{IsList-placed, touched-placed, found-on, no_room}
 use Rattle.pc_mailbox.proofs.update_list.UpdateList.touch.Goals as goal

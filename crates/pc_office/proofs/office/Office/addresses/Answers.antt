@@ -1,7 +1,7 @@
 use Rattle.std.proofs.Common.{ℕ, List, ◌&&◌, sym, ap, ◌∙◌}
 use Rattle.std.specs.List.{filter}
 use Rattle.std.specs.Map.{keys_of}
-use Rattle.pc_history.specs.Table.{same}
+use Rattle.pc_tables.specs.Table.{same}
 use Rattle.pc_office_history.specs.declared.kept.Target.{Target}
 use Rattle.pc_office_history.specs.Record.{OfficeRecord}
 use Rattle.pc_office_history.specs.Known.{Known, said_by}

@@ -1,5 +1,5 @@
 use Rattle.std.proofs.Common.{IsTrue, sym, ap, ◌∙◌, subst}
-use Rattle.pc_holdings.proofs.States.{from-ok}
+use Rattle.pc_base.proofs.Results.{from-ok}
 use Rattle.pc_office_history.specs.Record.{OfficeRecord}
 use Rattle.pc_office_history.specs.Known.{said_by}
 use Rattle.pc_office_history.specs.History.{◌▹◌}

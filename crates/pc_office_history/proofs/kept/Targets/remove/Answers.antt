@@ -1,6 +1,6 @@
 use Rattle.std.proofs.Common.{rules, not, ◌∙◌, ap}
 use Rattle.std.proofs.lemmas.Fn.{filter_same}
-use Rattle.pc_history.specs.Table.{same}
+use Rattle.pc_tables.specs.Table.{same}
 use Rattle.pc_office_history.specs.declared.kept.Target.{Target}
 use Rattle.pc_office_history.specs.Effect.{other_targets}
 use Rattle.pc_office_history.proofs.kept.Targets.remove.Goals as goal

@@ -1,6 +1,7 @@
 use Rattle.std.proofs.Common.{◌≡◌, List, ap, ◌∙◌, length, arith}
-use Rattle.pc_office_holdings.specs.Step.{front_mapped, posted}
-use Rattle.pc_office_holdings.proofs.Fronts.{front-all}
+use Rattle.pc_tables.specs.Fronts.{front_mapped}
+use Rattle.pc_office_holdings.specs.Step.{posted}
+use Rattle.pc_tables.proofs.Fronts.{front-all}
 use Rattle.pc_office_holdings.proofs.Posts.{Board}
 use Rattle.pc_office_holdings.proofs.boards.Boards.post.Goals as goal
 

@@ -2,8 +2,8 @@ use Rattle.std.proofs.Common.{◌≡◌, ℕ, true, false, List, length, nat_lt,
 use Rattle.std.specs.Map.{keys_of}
 use Rattle.indexmap.specs.IndexMap.{set_value_at}
 use Rattle.indexmap.specs.Layout.{length-set_value_at}
-use Rattle.pc_history.specs.Table.{is_among}
-use Rattle.pc_office_holdings.proofs.Fronts.{item-at, found-at, keys-set-at, set-at-same, key-at}
+use Rattle.pc_tables.specs.Table.{is_among}
+use Rattle.pc_tables.proofs.Fronts.{item-at, found-at, keys-set-at, set-at-same, key-at}
 use Rattle.pc_office_holdings.proofs.Posts.{Board, among-either, weighed-more, unposted, posted-one}
 use Rattle.pc_office_holdings.proofs.boards.Boards.post_at.Goals as goal
 

@@ -1,6 +1,6 @@
 use Rattle.std.proofs.Common.{sym, ap, ◌∙◌, ◌++◌, ◌∷◌, []}
 use Rattle.std.specs.Map.{keys_of}
-use Rattle.pc_history.proofs.Tables.{keys-append}
+use Rattle.pc_tables.proofs.Table.{keys-append}
 use Rattle.pc_office_holdings.proofs.Posts.{weighed-put}
 use Rattle.pc_office_holdings.proofs.boards.Boards.put.Goals as goal
 

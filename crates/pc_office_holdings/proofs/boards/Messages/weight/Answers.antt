@@ -1,8 +1,8 @@
 use Rattle.std.proofs.Common.{◌≡◌, ℕ, ◌≤◌, ◌%◌, List, length, take, ap, ◌∙◌, arith, add-one}
 use Rattle.std.proofs.lemmas.List.{take_all}
-use Rattle.pc_history.specs.Table.{total}
+use Rattle.pc_tables.specs.Table.{total}
 use Rattle.pc_message.specs.Message.{weight_of}
-use Rattle.pc_mailbox.proofs.Totals.{total-more}
+use Rattle.pc_tables.proofs.Totals.{total-more}
 use Rattle.pc_office_holdings.proofs.boards.Messages.weight.Goals as goal
 
 pub loop-message-preserved : goal.loop-message-preserved

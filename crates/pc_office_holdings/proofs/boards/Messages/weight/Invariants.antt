@@ -1,5 +1,5 @@
 use Rattle.std.proofs.Common.{◌≡◌, ◌%◌, take}
-use Rattle.pc_history.specs.Table.{total}
+use Rattle.pc_tables.specs.Table.{total}
 use Rattle.pc_message.specs.Message.{weight_of}
 use Rattle.pc_office_holdings.proofs.boards.Messages.weight.Given as goal
 

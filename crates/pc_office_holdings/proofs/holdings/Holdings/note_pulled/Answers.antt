@@ -1,13 +1,14 @@
 use Rattle.std.proofs.Common.{◌≡◌, suc, ◌+◌, List, length, map, slice_set, slice_index_or, sym, ap, ◌∙◌, arith, rules}
 use Rattle.std.specs.Map.{set_value}
 use Rattle.std.proofs.lemmas.Fn.{filter_same}
-use Rattle.pc_history.specs.Table.{same}
+use Rattle.pc_tables.specs.Table.{same}
 use Rattle.pc_office_history.specs.declared.kept.KeptMail.{KeptMail}
 use Rattle.pc_office_history.specs.Record.{mails_for}
 use Rattle.pc_office_history.specs.Step.{is_awaited, pulled_by, still_waiting}
 use Rattle.pc_office_holdings.specs.Held.{Held}
-use Rattle.pc_office_holdings.specs.Step.{front_mapped, standing_of, kept_after}
-use Rattle.pc_office_holdings.proofs.Fronts.{front-all, front-put, written-back}
+use Rattle.pc_tables.specs.Fronts.{front_mapped}
+use Rattle.pc_office_holdings.specs.Step.{standing_of, kept_after}
+use Rattle.pc_tables.proofs.Fronts.{front-all, front-put, written-back}
 use Rattle.pc_office_holdings.proofs.holdings.Holdings.note_pulled.Goals as goal
 
 pub loop-mail-preserved : goal.loop-mail-preserved

@@ -1,6 +1,6 @@
 use Rattle.std.proofs.Common.{◌∙◌}
 use Rattle.std.specs.Map.{lookup}
-use Rattle.pc_history.specs.Table.{same}
+use Rattle.pc_tables.specs.Table.{same}
 use Rattle.pc_office_holdings.proofs.FirstTargets.{front-targets, all-targets}
 use Rattle.pc_office_holdings.proofs.holdings.Holdings.targets_of.Goals as goal
 

@@ -6,8 +6,9 @@ use Rattle.indexmap.specs.Layout.{length-set_value_at}
 use Rattle.pc_office_history.specs.declared.kept.Target.{Target}
 use Rattle.pc_office_history.specs.Record.{target_of}
 use Rattle.pc_office_holdings.specs.declared.users.Standing.{Standing}
-use Rattle.pc_office_holdings.specs.Step.{front_mapped, awaited, with_mail}
-use Rattle.pc_office_holdings.proofs.Fronts.{item-at, front-kept, front-set, keys-set-at, value-at, none-at, within-values}
+use Rattle.pc_tables.specs.Fronts.{front_mapped}
+use Rattle.pc_office_holdings.specs.Step.{awaited, with_mail}
+use Rattle.pc_tables.proofs.Fronts.{item-at, front-kept, front-set, keys-set-at, value-at, none-at, within-values}
 use Rattle.pc_office_holdings.proofs.users.Users.await_at.Goals as goal
 use Rattle.pc_office_holdings.proofs.users.Users.await_at.Goals.{in-Some, in_default}
 

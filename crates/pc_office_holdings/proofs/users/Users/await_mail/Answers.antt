@@ -1,7 +1,8 @@
 use Rattle.std.proofs.Common.{◌≡◌, ℕ, List, ap, ◌∙◌, length, arith}
 use Rattle.pc_office_holdings.specs.declared.users.Standing.{Standing}
-use Rattle.pc_office_holdings.specs.Step.{front_mapped, awaited}
-use Rattle.pc_office_holdings.proofs.Fronts.{front-all}
+use Rattle.pc_tables.specs.Fronts.{front_mapped}
+use Rattle.pc_office_holdings.specs.Step.{awaited}
+use Rattle.pc_tables.proofs.Fronts.{front-all}
 use Rattle.pc_office_holdings.proofs.users.Users.await_mail.Goals as goal
 
 pub await_at-requires : goal.await_at-requires

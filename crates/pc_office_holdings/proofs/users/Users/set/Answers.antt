@@ -1,7 +1,7 @@
 use Rattle.std.proofs.Common.{sym, ap, ◌∙◌}
 use Rattle.std.specs.Map.{keys_of}
-use Rattle.pc_history.specs.Table.{same}
-use Rattle.pc_history.proofs.Tables.{keys-set_value}
+use Rattle.pc_tables.specs.Table.{same}
+use Rattle.pc_tables.proofs.Table.{keys-set_value}
 use Rattle.pc_office_holdings.proofs.users.Users.set.Goals as goal
 
 pub invariant_of-self : goal.invariant_of-self

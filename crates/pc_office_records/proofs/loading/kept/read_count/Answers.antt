@@ -1,6 +1,6 @@
 use Rattle.std.proofs.Common.{◌≡◌, List, ℕ, [], Ok, sym, ap, subst, ◌∙◌}
-use Rattle.pc_spelling.specs.Fields.{u32_kind, within, FieldReads}
-use Rattle.pc_spelling.proofs.TestedFields.{field_fails}
+use Rattle.pc_fields.specs.Fields.{u32_kind, within, FieldReads}
+use Rattle.pc_fields.proofs.TestedFields.{field_fails}
 use Rattle.pc_office_history.specs.declared.kept.Target.{Target}
 use Rattle.pc_office_records.specs.declared.loading.kept.Row.{Row}
 use Rattle.pc_office_records.specs.ReadKept.{rows_in, follow_in}

@@ -1,4 +1,4 @@
-use Rattle.pc_spelling.proofs.MessageReads.{match_err}
+use Rattle.pc_fields.proofs.Follows.{match_err}
 use Rattle.pc_office_records.proofs.ReadMails.{kept_no_count, kept_read}
 use Rattle.pc_office_records.proofs.loading.kept.read_kept.Goals as goal
 

@@ -1,7 +1,7 @@
 use Rattle.std.proofs.Common.{◌+◌, ◌-◌, List, ℕ, [], map, Ok, Err, refl, subst, ◌∙◌, arith}
 use Rattle.pc_message.specs.Message.{weight_of}
-use Rattle.pc_spelling.specs.Format.{Reads}
-use Rattle.pc_spelling.proofs.MessageReads.{match_err}
+use Rattle.pc_fields.specs.Format.{Reads}
+use Rattle.pc_fields.proofs.Follows.{match_err}
 use Rattle.pc_office_spelling.specs.RecordFormat.{items_from, kept_format}
 use Rattle.pc_office_holdings.specs.Held.{noted_of}
 use Rattle.pc_office_records.proofs.ReadItems.{items_first, items_more, items_halt, items_last}

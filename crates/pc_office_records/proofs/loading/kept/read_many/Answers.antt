@@ -1,6 +1,6 @@
 use Rattle.std.proofs.Common.{List, ℕ, Ok, sym, subst, ◌∙◌}
-use Rattle.pc_spelling.specs.Fields.{u16_kind, within, FieldReads}
-use Rattle.pc_spelling.proofs.TestedFields.{field_fails}
+use Rattle.pc_fields.specs.Fields.{u16_kind, within, FieldReads}
+use Rattle.pc_fields.proofs.TestedFields.{field_fails}
 use Rattle.pc_office_records.specs.ReadKept.{is_many}
 use Rattle.pc_office_records.proofs.loading.kept.read_many.Goals as goal
 

@@ -1,8 +1,7 @@
 use Rattle.std.proofs.Common.{List, ℕ, Ok, Bool, true, false, not, ◌≡◌, ◌&&◌, refl, sym, ap, subst, ◌∙◌}
-use Rattle.pc_history.specs.Table.{is_among}
-use Rattle.pc_spelling.specs.Fields.{name_kind, any, FieldReads}
-use Rattle.pc_spelling.specs.RecordFormat.{is_new}
-use Rattle.pc_spelling.proofs.TestedFields.{field_fails}
+use Rattle.pc_tables.specs.Table.{is_among}
+use Rattle.pc_fields.specs.Fields.{name_kind, any, FieldReads, is_new}
+use Rattle.pc_fields.proofs.TestedFields.{field_fails}
 use Rattle.pc_office_spelling.specs.Spaces.{users_of}
 use Rattle.pc_office_records.specs.ReadKept.{open_in}
 use Rattle.pc_office_records.proofs.loading.kept.read_open_user.Goals as goal

@@ -1,8 +1,8 @@
 use Rattle.std.proofs.Common.{◌≡◌, true, [], ◌∷◌}
-use Rattle.pc_history.proofs.Uids.{Every-append}
-use Rattle.pc_history.specs.Table.{is_among}
+use Rattle.pc_tables.proofs.Lists.{Every-append}
+use Rattle.pc_tables.specs.Table.{is_among}
 use Rattle.pc_office_history.specs.declared.kept.Target.{Target}
-use Rattle.pc_spelling.specs.Format.{Reads}
+use Rattle.pc_fields.specs.Format.{Reads}
 use Rattle.pc_office_spelling.specs.RecordFormat.{items_from, target_format}
 use Rattle.pc_office_records.specs.ReadKept.{open_in}
 use Rattle.pc_office_records.proofs.ReadItems.{as_err, items_first, items_more, items_halt, items_last}

@@ -1,5 +1,5 @@
 use Rattle.std.proofs.Common.{◌-◌, []}
-use Rattle.pc_spelling.proofs.Follows.{Follows}
+use Rattle.pc_fields.proofs.Follows.{Follows}
 use Rattle.pc_office_spelling.specs.RecordFormat.{items_from, target_format}
 use Rattle.pc_office_records.specs.ReadKept.{open_in, AreOpen}
 use Rattle.pc_office_records.proofs.loading.kept.read_targets.Given as goal

@@ -1,5 +1,5 @@
 use Rattle.std.proofs.Common.{◌≡◌, ◌+◌, ◌*◌, ◌≤◌, drop, cond, nat_lt}
-use Rattle.pc_history.specs.Table.{total}
+use Rattle.pc_tables.specs.Table.{total}
 use Rattle.pc_office_records.specs.declared.loading.kept.Row.{Row}
 use Rattle.pc_office_records.specs.ReadKept.{space_in, upto_in}
 use Rattle.pc_office_records.proofs.loading.kept.space_upto.Given as goal

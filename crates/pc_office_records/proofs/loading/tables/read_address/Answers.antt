@@ -1,4 +1,4 @@
-use Rattle.pc_spelling.proofs.Formats.{after_field, no_field}
+use Rattle.pc_fields.proofs.Formats.{after_field, no_field}
 use Rattle.pc_office_records.proofs.loading.tables.read_address.Goals as goal
 
 pub returns-in_err-mailbox-clause-read : goal.returns-in_err-mailbox-clause-read

@@ -1,5 +1,5 @@
-use Rattle.pc_spelling.specs.Format.{ends}
-use Rattle.pc_spelling.proofs.Formats.{nothing_more, after_field, after_part, no_part}
+use Rattle.pc_fields.specs.Format.{ends}
+use Rattle.pc_fields.proofs.Formats.{nothing_more, after_field, after_part, no_part}
 use Rattle.pc_office_records.proofs.ReadTables.{count-read, messages-read, boards-light}
 use Rattle.pc_office_records.proofs.loading.tables.read_board.Goals as goal
 

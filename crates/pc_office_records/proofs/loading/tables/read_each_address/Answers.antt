@@ -1,6 +1,6 @@
 use Rattle.std.proofs.Common.{[]}
 use Rattle.std.specs.Map.{keys_of}
-use Rattle.pc_spelling.proofs.MessageReads.{match_err}
+use Rattle.pc_fields.proofs.Follows.{match_err}
 use Rattle.pc_office_spelling.specs.RecordFormat.{items_from, address_format}
 use Rattle.pc_office_records.proofs.ReadItems.{items_more, items_halt, items_last}
 use Rattle.pc_office_records.proofs.loading.tables.read_each_address.Goals as goal

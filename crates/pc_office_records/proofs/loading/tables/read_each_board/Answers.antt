@@ -1,6 +1,6 @@
 use Rattle.std.proofs.Common.{◌++◌, []}
 use Rattle.std.specs.Map.{keys_of}
-use Rattle.pc_spelling.specs.Format.{Reads}
+use Rattle.pc_fields.specs.Format.{Reads}
 use Rattle.pc_office_spelling.specs.RecordFormat.{items_from, board_format}
 use Rattle.pc_office_records.proofs.ReadItems.{items_more, items_halt, items_last, as_err}
 use Rattle.pc_office_records.proofs.loading.tables.read_each_board.Goals as goal

@@ -1,6 +1,6 @@
 use Rattle.std.proofs.Common.{◌-◌, ◌++◌, ◌≤◌, []}
 use Rattle.std.specs.Map.{keys_of}
-use Rattle.pc_spelling.proofs.Follows.{Follows}
+use Rattle.pc_fields.proofs.Follows.{Follows}
 use Rattle.pc_office_spelling.specs.RecordFormat.{items_from, board_format}
 use Rattle.pc_office_holdings.specs.Held.{weight_on_all}
 use Rattle.pc_office_records.proofs.loading.tables.read_each_board.Given as goal

@@ -1,5 +1,5 @@
 use Rattle.std.proofs.Common.{◌-◌, [], map}
-use Rattle.pc_spelling.proofs.Follows.{Follows}
+use Rattle.pc_fields.proofs.Follows.{Follows}
 use Rattle.pc_office_spelling.specs.RecordFormat.{items_from, user_format}
 use Rattle.pc_office_holdings.specs.Held.{noted_of}
 use Rattle.pc_office_records.specs.Loading.{AreUncounted}

@@ -1,5 +1,5 @@
 use Rattle.std.proofs.Common.{[]}
-use Rattle.pc_spelling.specs.Format.{Reads}
+use Rattle.pc_fields.specs.Format.{Reads}
 use Rattle.pc_office_spelling.specs.RecordFormat.{items_from, message_format}
 use Rattle.pc_office_records.proofs.ReadItems.{items_more, items_halt, items_last, as_err}
 use Rattle.pc_office_records.proofs.ReadTables.{message-read, room-left}

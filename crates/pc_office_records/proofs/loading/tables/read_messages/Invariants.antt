@@ -1,7 +1,7 @@
 use Rattle.std.proofs.Common.{◌≡◌, ◌+◌, ◌-◌, ◌*◌, []}
-use Rattle.pc_history.specs.Table.{total}
+use Rattle.pc_tables.specs.Table.{total}
 use Rattle.pc_message.specs.Message.{weight_of}
-use Rattle.pc_spelling.proofs.Follows.{Follows}
+use Rattle.pc_fields.proofs.Follows.{Follows}
 use Rattle.pc_office_spelling.specs.RecordFormat.{items_from, message_format}
 use Rattle.pc_office_records.proofs.loading.tables.read_messages.Given as goal
 

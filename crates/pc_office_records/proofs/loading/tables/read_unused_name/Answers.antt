@@ -1,8 +1,7 @@
 use Rattle.std.proofs.Common.{◌++◌, sym, ap, not, ◌∙◌}
 use Rattle.std.specs.Map.{keys_of}
-use Rattle.pc_spelling.specs.Fields.{name_kind, any}
-use Rattle.pc_spelling.specs.RecordFormat.{is_new}
-use Rattle.pc_spelling.proofs.TestedFields.{field_passes, field_fails}
+use Rattle.pc_fields.specs.Fields.{name_kind, any, is_new}
+use Rattle.pc_fields.proofs.TestedFields.{field_passes, field_fails}
 use Rattle.pc_office_records.proofs.ReadTables.{field_ahead, none-taken}
 use Rattle.pc_office_records.proofs.loading.tables.read_unused_name.Goals as goal
 

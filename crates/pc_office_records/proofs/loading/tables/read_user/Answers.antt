@@ -1,6 +1,6 @@
 use Rattle.std.proofs.Common.{refl}
-use Rattle.pc_spelling.proofs.Formats.{nothing_more, after_field, no_field}
-use Rattle.pc_spelling.proofs.MessageReads.{match_err}
+use Rattle.pc_fields.proofs.Formats.{nothing_more, after_field, no_field}
+use Rattle.pc_fields.proofs.Follows.{match_err}
 use Rattle.pc_office_records.proofs.ReadTables.{user-name}
 use Rattle.pc_office_records.proofs.loading.tables.read_user.Goals as goal
 

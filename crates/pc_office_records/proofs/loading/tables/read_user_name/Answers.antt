@@ -1,9 +1,9 @@
 use Rattle.std.proofs.Common.{ℕ, List, sym, ap, ◌∙◌, is_some}
 use Rattle.std.specs.Map.{keys_of, lookup}
-use Rattle.pc_history.specs.Table.{same, is_among}
-use Rattle.pc_history.proofs.Tables.{is_among-keys}
-use Rattle.pc_spelling.specs.Fields.{name_kind, any}
-use Rattle.pc_spelling.proofs.TestedFields.{field_passes, field_fails}
+use Rattle.pc_tables.specs.Table.{same, is_among}
+use Rattle.pc_tables.proofs.Table.{is_among-keys}
+use Rattle.pc_fields.specs.Fields.{name_kind, any}
+use Rattle.pc_fields.proofs.TestedFields.{field_passes, field_fails}
 use Rattle.pc_office_holdings.specs.declared.users.Standing.{Standing}
 use Rattle.pc_office_records.proofs.ReadTables.{field_ahead}
 use Rattle.pc_office_records.proofs.loading.tables.read_user_name.Goals as goal

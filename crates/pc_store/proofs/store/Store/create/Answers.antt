@@ -1,4 +1,4 @@
-use Rattle.std.proofs.Common.{◌∙◌, sym, ap, subst}
+use Rattle.std.proofs.Common.{◌∙◌, ◌+◌, ◌≤◌, sym, ap, subst}
 use Rattle.pc_disk.specs.Outcomes.{SameDue}
 use Rattle.pc_log.specs.Making.{NoneDue}
 use Rattle.pc_store.specs.Store.{StoreState}
@@ -17,3 +17,7 @@ returns-clause-due g c told =
 pub returns-clause-ahead : goal.returns-clause-ahead
 returns-clause-ahead g c told =
     subst (λ (s : StoreState _ _ _). SameDue (g.D.Disk.moment s.disk) (g.D.Disk.due c.args.disk) (g.D.Disk.due s.disk)) (sym c.of.ensures) (c.make.ensures.ahead told)
+
+pub returns-clause-taken : goal.returns-clause-taken
+returns-clause-taken g c =
+    subst (λ (s : StoreState _ _ _). g.D.Disk.taken s.disk ≤ g.D.Disk.taken c.args.disk + 1) (sym c.of.ensures) c.make.ensures.taken

@@ -1,12 +1,13 @@
 use Rattle.std.proofs.Common.{◌≡◌, ◌∙◌, ℕ, ◌+◌, ◌<◌, ◌≤◌, List, length, sym, ap, subst, arith}
 use Rattle.pc_disk.specs.Images.{Images, other_of, InArea}
-use Rattle.pc_disk.specs.Outcomes.{LeavesOnly}
+use Rattle.pc_disk.specs.Outcomes.{LeavesFirst, LeavesOnly}
 use Rattle.pc_disk.specs.StepFaults.{LeadsOn}
+use Rattle.pc_disk.proofs.Runs.{first_alone}
 use Rattle.pc_store.specs.History.{written_of}
 use Rattle.pc_store.specs.Store.{StoreState, OpensInDoubt}
 use Rattle.pc_store.specs.Commit.{StandsWithOrWithout, StandsWithout, doubt_after}
 use Rattle.pc_store.proofs.EntriesLemmas.{within}
-use Rattle.pc_store.proofs.CommitLemmas.{history_legal, enters, run_either, run_without, other_kept, doubt_leaves, first_due, sound_broken, sound_more, acknowledged_more, leaves_more, replay_more, pushed, then_some_doubt}
+use Rattle.pc_store.proofs.CommitLemmas.{history_legal, enters, run_either, run_first, other_kept, doubt_leaves, first_due, sound_broken, sound_more, acknowledged_more, leaves_more, replay_more, pushed, then_some_doubt}
 use Rattle.pc_store.proofs.SameLemmas.{Lawful}
 use Rattle.pc_store.proofs.store.Store.enter.Goals as goal
 
@@ -45,7 +46,10 @@ invariant_of-self-in-Err g c =
     let untouched = c.make_room.ensures.untouched in
     let stands = c.make_room.ensures.stands told old.head entries (sound.stands told known.whole) in
     let run = run_either machine disk.tells disk.seen disk.may_leave disk.moment disk.left_since old inside.log inside.bytes mid new entry bytes sound known.whole known.follow c.requires.written told (λ (left : Images) since. g.met.D.Disk.only_now told inside.disk left since) (untouched.still told) untouched.same_moment (c.in-Err.ensures.any_moment told old.head entries stands) in
-    let run_early = λ (low : c.in-Err.fault.call ≤ 2). run_without machine disk.tells disk.seen disk.may_leave disk.moment disk.left_since old inside.log inside.bytes mid new entry sound known.whole known.follow told (λ (left : Images) since. g.met.D.Disk.only_now told inside.disk left since) (untouched.still told) untouched.same_moment (c.in-Err.ensures.early told low old.head entries stands) in
+    let without : Images → Type 0 = LeadsOn (InArea 0 (StandsWithout machine old.head old.trail)) (disk.may_leave inside.disk) in
+    let either : Images → Type 0 = LeadsOn (InArea 0 (StandsWithOrWithout machine old.head old.trail entry)) (disk.may_leave inside.disk) in
+    let first = run_first machine disk.tells disk.seen disk.may_leave disk.moment disk.left_since old inside.log inside.bytes mid new entry bytes sound known.whole known.follow c.requires.written told (λ (left : Images) since. g.met.D.Disk.only_now told inside.disk left since) (untouched.still told) untouched.same_moment (c.in-Err.ensures.first_two told old.head entries stands) in
+    let run_early = λ (low : c.in-Err.fault.call ≤ 2). first_alone disk.moment disk.left_since 2 inside.disk new without either first (omega (arith, c.in-Err.ensures.calls, untouched.same_moment, low)) in
     let since = g.met.D.Disk.counts_now told new (disk.moment inside.disk) left run.later may in
     let doubted = doubt_leaves machine old.head old.trail entry c.in-Err.fault.call left (λ low. ((run_early low).each left since).2.here) (run.each left since).2.here in
     subst (λ d. OpensInDoubt machine old.head old.trail d left) (sym same) doubted)
@@ -69,8 +73,8 @@ returns-in-Err-clause-any_moment g c told =
     let run = run_either machine disk.tells disk.seen disk.may_leave disk.moment disk.left_since old inside.log inside.bytes mid new entry bytes sound known.whole known.follow c.requires.written told (λ (left : Images) since. g.met.D.Disk.only_now told inside.disk left since) (untouched.still told) untouched.same_moment (c.in-Err.ensures.any_moment told old.head entries stands) in
     subst (λ (s : StoreState g.row.M.Denot g.row.D.Denot g.row.M-Entry.Denot). LeavesOnly disk.moment disk.left_since s.disk new (LeadsOn (InArea 0 (StandsWithOrWithout machine s.head s.trail entry)) (disk.may_leave s.disk))) view run
 
-pub returns-in-Err-clause-early : goal.returns-in-Err-clause-early
-returns-in-Err-clause-early g c told low =
+pub returns-in-Err-clause-first_two : goal.returns-in-Err-clause-first_two
+returns-in-Err-clause-first_two g c told =
     let machine = g.M.Machine in
     let disk = g.D.Disk in
     let inside = c.self.inside in
@@ -85,12 +89,8 @@ returns-in-Err-clause-early g c told low =
     let entries = written_of machine inside.trail.items in
     let untouched = c.make_room.ensures.untouched in
     let stands = c.make_room.ensures.stands told old.head entries (sound.stands told known.whole) in
-    let run = run_either machine disk.tells disk.seen disk.may_leave disk.moment disk.left_since old inside.log inside.bytes mid new entry bytes sound known.whole known.follow c.requires.written told (λ (left : Images) since. g.met.D.Disk.only_now told inside.disk left since) (untouched.still told) untouched.same_moment (c.in-Err.ensures.any_moment told old.head entries stands) in
-    let run_early = λ (low : c.in-Err.fault.call ≤ 2). run_without machine disk.tells disk.seen disk.may_leave disk.moment disk.left_since old inside.log inside.bytes mid new entry sound known.whole known.follow told (λ (left : Images) since. g.met.D.Disk.only_now told inside.disk left since) (untouched.still told) untouched.same_moment (c.in-Err.ensures.early told low old.head entries stands) in
-    let at = ap (λ (s : StoreState g.row.M.Denot g.row.D.Denot g.row.M-Entry.Denot). disk.moment s.disk) view in
-    let calls = c.in-Err.ensures.calls in
-    let few : c.in-Err.fault.call ≤ 2 = omega (arith, at, calls, untouched.same_moment, low) in
-    subst (λ (s : StoreState g.row.M.Denot g.row.D.Denot g.row.M-Entry.Denot). LeavesOnly disk.moment disk.left_since s.disk new (LeadsOn (InArea 0 (StandsWithout machine s.head s.trail)) (disk.may_leave s.disk))) view (run_early few)
+    let first = run_first machine disk.tells disk.seen disk.may_leave disk.moment disk.left_since old inside.log inside.bytes mid new entry bytes sound known.whole known.follow c.requires.written told (λ (left : Images) since. g.met.D.Disk.only_now told inside.disk left since) (untouched.still told) untouched.same_moment (c.in-Err.ensures.first_two told old.head entries stands) in
+    subst (λ (s : StoreState g.row.M.Denot g.row.D.Denot g.row.M-Entry.Denot). LeavesFirst disk.moment disk.left_since 2 s.disk new (LeadsOn (InArea 0 (StandsWithout machine s.head s.trail)) (disk.may_leave s.disk)) (LeadsOn (InArea 0 (StandsWithOrWithout machine s.head s.trail entry)) (disk.may_leave s.disk))) view first
 
 pub returns-in-Err-clause-other_area : goal.returns-in-Err-clause-other_area
 returns-in-Err-clause-other_area g c told =
@@ -213,3 +213,22 @@ returns-clause-leaves g c =
     let entries = written_of machine inside.trail.items in
     let more = pushed inside.trail.items c.make_room.new.trail.items c.push.new.self.items entry c.make_room.ensures.items c.in-Ok-push.ensures.items in
     leaves_more machine old c.args.self.now c.next-number.result entry new c.push.new.self.items c.apply.new.self view c.next-number.ensures.value (sound.no_doubt known.whole) more c.in-Ok.ensures
+
+pub returns-clause-first_two : goal.returns-clause-first_two
+returns-clause-first_two g c told =
+    let machine = g.M.Machine in
+    let disk = g.D.Disk in
+    let inside = c.self.inside in
+    let old : StoreState g.row.M.Denot g.row.D.Denot g.row.M-Entry.Denot = record { disk = inside.disk; head = record { kind = machine.KIND; generation = inside.generation; first = inside.first; base = inside.base }; trail = inside.trail.items; state = inside.state; broken = inside.is_broken; doubt = inside.doubt } in
+    let sound = c.self.invariant in
+    let view = c.self.view_is in
+    let entry = c.args.entry in
+    let bytes = c.args.bytes.now in
+    let known = enters machine disk.tells disk.seen disk.may_leave old c.args.self.now inside.log inside.bytes entry bytes sound view c.requires.allowed c.requires.whole c.requires.written c.requires.size c.requires.room in
+    let mid = c.make_room.new.disk in
+    let new = c.append.new.disk in
+    let entries = written_of machine inside.trail.items in
+    let untouched = c.make_room.ensures.untouched in
+    let stands = c.make_room.ensures.stands told old.head entries (sound.stands told known.whole) in
+    let first = run_first machine disk.tells disk.seen disk.may_leave disk.moment disk.left_since old inside.log inside.bytes mid new entry bytes sound known.whole known.follow c.requires.written told (λ (left : Images) since. g.met.D.Disk.only_now told inside.disk left since) (untouched.still told) untouched.same_moment (c.in_default-append.ensures.first_two told old.head entries stands) in
+    subst (λ (s : StoreState g.row.M.Denot g.row.D.Denot g.row.M-Entry.Denot). LeavesFirst disk.moment disk.left_since 2 s.disk new (LeadsOn (InArea 0 (StandsWithout machine s.head s.trail)) (disk.may_leave s.disk)) (LeadsOn (InArea 0 (StandsWithOrWithout machine s.head s.trail entry)) (disk.may_leave s.disk))) view first

@@ -1,4 +1,4 @@
-use Rattle.std.proofs.Common.{◌≡◌, ◌∙◌, ℕ, ◌+◌, ◌≤◌, List, length, sym, ap, subst, arith}
+use Rattle.std.proofs.Common.{◌≡◌, ◌∙◌, ℕ, ◌+◌, ◌^◌, ◌≤◌, List, length, sym, ap, subst, arith}
 use Rattle.pc_disk.specs.Images.{area_of}
 use Rattle.pc_disk.specs.Outcomes.{LeavesOnly, SameDue}
 use Rattle.pc_log.specs.Area.{front}
@@ -54,3 +54,7 @@ returns-clause-taken g c =
     let gate : c.in-Ok.history.log.gate ≡ length (front head (written_of g.M.Machine c.in-Ok.history.trail.items)) = ap (λ (l : LogState). l.gate) c.in-Ok.ensures.found.holds.log_is in
     let most : g.D.Disk.taken c.read_settled.new.disk ≤ g.D.Disk.taken c.args.disk + length (front head (written_of g.M.Machine c.in-Ok.history.trail.items)) + 5 = omega (arith, gate, c.in-Ok.ensures.taken) in
     subst (λ (s : StoreState _ _ _). g.D.Disk.taken s.disk ≤ g.D.Disk.taken c.args.disk + length (front s.head (written_of g.M.Machine s.trail)) + 5) (sym c.of.ensures) most
+
+pub returns-clause-most_taken : goal.returns-clause-most_taken
+returns-clause-most_taken g c =
+    subst (λ (s : StoreState _ _ _). g.D.Disk.taken s.disk ≤ g.D.Disk.taken c.args.disk + 2 ^ 31) (sym c.of.ensures) c.read_settled.ensures.most_taken

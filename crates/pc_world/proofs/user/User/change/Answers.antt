@@ -1,6 +1,6 @@
 use Rattle.std.proofs.Common.{◌≡◌, List, ◌++◌, [], ◌∷◌, Ok, Err, sym, ap, ◌∙◌, append-nil, rules}
-use Rattle.pc_history.specs.declared.entry.Entry.{Entry}
-use Rattle.pc_history.specs.History.{known}
+use Rattle.pc_account_history.specs.declared.entry.Entry.{Entry}
+use Rattle.pc_account_history.specs.History.{known}
 use Rattle.pc_account.specs.Plan.{planned}
 use Rattle.pc_world.specs.Account.{Account, history_of}
 use Rattle.pc_world.proofs.Entries.{tells_seen, changes_refused, changes_kept}

@@ -1,0 +1,5 @@
+use Rattle.pc_account_history.proofs.AtLimits.{two-limits}
+use Rattle.pc_account_history.proofs.samples.two_limits.Goals as goal
+
+pub returns : goal.returns
+returns c = two-limits

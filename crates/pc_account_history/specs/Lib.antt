@@ -1,0 +1,13 @@
+pub mod Entry
+pub mod Record
+pub mod Effect
+pub mod Known
+pub mod History
+pub mod Allowed
+pub mod Limits
+pub mod Step
+pub mod Legal
+pub mod Answers
+pub mod UpdateList
+pub mod Laws
+pub mod Samples

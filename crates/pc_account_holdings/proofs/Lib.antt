@@ -1,0 +1,7 @@
+mod Allowed
+mod Bounds
+mod Letters
+mod Names
+mod Rooms
+pub mod States
+mod Sums

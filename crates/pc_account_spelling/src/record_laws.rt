@@ -1,0 +1,33 @@
+//! What holds of the bytes of records. Each law is the contract of a function that does nothing.
+
+ghost use Rattle.pc_account_spelling.specs.RecordLaws.{OneRecord, RecordIsRead, OneRecordFault, RecordIsShort, ForgetIsShort, StepFits};
+
+/// No bytes are those of two records.
+pub fn one_record()
+    ensures { OneRecord }
+{}
+
+/// The bytes of a record have no fault.
+pub fn record_is_read()
+    ensures { RecordIsRead }
+{}
+
+/// Bytes have at most one first fault.
+pub fn one_record_fault()
+    ensures { OneRecordFault }
+{}
+
+/// A record is short enough for the base of a store.
+pub fn record_is_short()
+    ensures { RecordIsShort }
+{}
+
+/// An allowed entry takes no more changes off a list than there can be.
+pub fn forget_is_short()
+    ensures { ForgetIsShort }
+{}
+
+/// What fits its fields fits again after an entry that may come next and fits.
+pub fn step_fits()
+    ensures { StepFits }
+{}

@@ -1,0 +1,14 @@
+pub mod FieldLengths
+pub mod Fields
+pub mod Follows
+pub mod Formats
+pub mod Good
+pub mod GoodMessage
+pub mod Loops
+pub mod NewNames
+pub mod Pushes
+pub mod ReadLoops
+pub mod ReadsMessage
+pub mod Spelled
+pub mod TestedFields
+pub mod Values

@@ -1,5 +1,0 @@
-use Rattle.pc_history.proofs.Within.{IsWithin-legal}
-use Rattle.pc_history.proofs.laws.limits_hold.Goals as goal
-
-pub returns : goal.returns
-returns c = IsWithin-legal

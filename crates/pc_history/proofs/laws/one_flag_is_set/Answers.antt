@@ -1,5 +1,0 @@
-use Rattle.pc_history.proofs.Steps.{one-flag}
-use Rattle.pc_history.proofs.laws.one_flag_is_set.Goals as goal
-
-pub returns : goal.returns
-returns c = one-flag

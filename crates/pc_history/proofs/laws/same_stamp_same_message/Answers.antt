@@ -1,5 +1,0 @@
-use Rattle.pc_history.proofs.Steps.{same-stamp-same-message}
-use Rattle.pc_history.proofs.laws.same_stamp_same_message.Goals as goal
-
-pub returns : goal.returns
-returns c = same-stamp-same-message

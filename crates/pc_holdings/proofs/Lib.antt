@@ -1,8 +1,0 @@
-mod Allowed
-mod Bounds
-mod Letters
-mod Names
-mod Rooms
-pub mod States
-mod Sums
-mod Unset

@@ -1,8 +1,0 @@
-use Rattle.std.proofs.Common.{List, ℕ, ap, ◌∙◌}
-use Rattle.pc_holdings.specs.Mailboxes.{empty_for}
-use Rattle.pc_holdings.proofs.Names.{new-for}
-use Rattle.pc_holdings.proofs.States.{if-ok}
-use Rattle.pc_holdings.proofs.holdings.new_mailbox.Goals as goal
-
-pub returns : goal.returns
-returns c = if-ok c.mailbox_for.result (λ mailbox e. e ∙ ap (λ (names : List (List ℕ)). empty_for names) (c.as_slice.ensures ∙ c.keys-names.ensures.rest) ∙ new-for c.args.clients.now.entries) c.mailbox_for.ensures

@@ -1,7 +1,0 @@
-use Rattle.std.proofs.Common.{◌∙◌}
-use Rattle.indexmap.proofs.CallerLemmas.{insert_entry-new}
-use Rattle.pc_history.specs.Table.{same}
-use Rattle.pc_holdings.proofs.tables.put.Goals as goal
-
-pub returns-clause-ok : goal.returns-clause-ok
-returns-clause-ok g c = c.in_ok-insert.ensures.entries ∙ insert_entry-new same c.args.table.now c.args.name c.args.value c.requires

@@ -1,5 +1,0 @@
-use Rattle.pc_spelling.proofs.EntryLaws.{one-entry}
-use Rattle.pc_spelling.proofs.laws.one_entry.Goals as goal
-
-pub returns : goal.returns
-returns c = one-entry

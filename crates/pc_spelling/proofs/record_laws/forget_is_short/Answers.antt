@@ -1,5 +1,0 @@
-use Rattle.pc_spelling.proofs.ForgetSize.{forget_few}
-use Rattle.pc_spelling.proofs.record_laws.forget_is_short.Goals as goal
-
-pub returns : goal.returns
-returns c = forget_few

@@ -1,5 +1,0 @@
-use Rattle.pc_spelling.proofs.RecordLaws.{record-is-read}
-use Rattle.pc_spelling.proofs.record_laws.record_is_read.Goals as goal
-
-pub returns : goal.returns
-returns c = record-is-read

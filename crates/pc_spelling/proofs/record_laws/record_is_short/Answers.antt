@@ -1,5 +1,0 @@
-use Rattle.pc_spelling.proofs.RecordLaws.{record-is-short}
-use Rattle.pc_spelling.proofs.record_laws.record_is_short.Goals as goal
-
-pub returns : goal.returns
-returns c = record-is-short

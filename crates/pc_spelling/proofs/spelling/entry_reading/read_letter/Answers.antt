@@ -1,9 +1,0 @@
-use Rattle.pc_spelling.specs.Format.{ends}
-use Rattle.pc_spelling.proofs.Formats.{nothing_more, after_field, after_part, no_part}
-use Rattle.pc_spelling.proofs.spelling.entry_reading.read_letter.Goals as goal
-
-pub returns-in_err-message : goal.returns-in_err-message
-returns-in_err-message c = after_field c.in_ok-mailbox.ensures (no_part (λ message. ends (c.in_ok-mailbox.mailbox, message)) c.in_err-message.ensures c.from_residual-in_err-message.ensures)
-
-pub returns : goal.returns
-returns c = after_field c.in_ok-mailbox.ensures (after_part (λ message. ends (c.in_ok-mailbox.mailbox, message)) c.in_ok-message.ensures nothing_more)

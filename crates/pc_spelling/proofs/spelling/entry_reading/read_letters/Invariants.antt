@@ -1,8 +1,0 @@
-use Rattle.std.proofs.Common.{◌-◌}
-use Rattle.pc_spelling.specs.Format.{repeated}
-use Rattle.pc_spelling.specs.EntryFormat.{letter_format}
-use Rattle.pc_spelling.proofs.ReadLoops.{Continues}
-use Rattle.pc_spelling.proofs.spelling.entry_reading.read_letters.Given as goal
-
-abbrev pub invariant-loop-taken : goal.invariant-loop-taken
-invariant-loop-taken l = Continues (repeated l.count letter_format) (repeated (l.count - l._taken) letter_format) l.fn.cursor l.cursor l.letters

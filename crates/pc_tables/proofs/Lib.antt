@@ -1,0 +1,11 @@
+pub mod Booleans
+pub mod Options
+pub mod Lists
+pub mod Table
+pub mod Numbers
+pub mod Order
+pub mod Totals
+pub mod Distinct
+pub mod Halves
+pub mod Places
+pub mod Fronts

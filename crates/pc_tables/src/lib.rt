@@ -1,0 +1,7 @@
+//! Names, tables of what stands under names, orders and sums.
+#![tactic(auto)]
+
+mod sums;
+pub mod tables;
+
+pub use sums::replaced;
