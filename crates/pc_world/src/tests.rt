@@ -123,7 +123,7 @@ fn other_lines_are_no_event(rt: HostRuntime) {
 /// Whether a line of this length is an event: a user's request of spaces behind `HELP`.
 fn asks_in(alloc: Global, length: usize) -> Result<bool, Fail> {
     let mut line = Vec::from_slice(alloc, b"ask ann HELP".as_slice())?;
-    while line.len() < length {
+    for _ in line.len()..length {
         line.push(b' ')?;
     }
     Ok(read_event(&line).is_ok())
