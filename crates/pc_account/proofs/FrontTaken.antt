@@ -1,6 +1,6 @@
--- What the longest front of the letters tells of the wish to take mails.
+-- What the longest front of the parcels tells of the wish to take mails.
 use Rattle.std.proofs.Common.{◌≡◌, ℕ, zero, suc, ◌-◌, ◌<◌, ◌≤◌, ◌==◌, false, List, map, take, length, get_or, None, Some, Ok, refl, sym, ◌∙◌, ap, arith, length-take-le}
-use Rattle.std.proofs.lemmas.List.{length-map, take-map}
+use Rattle.std.proofs.lemmas.List.{length-map}
 use Rattle.std.proofs.lemmas.Bool.{ne_eqb}
 use Rattle.pc_base.specs.declared.room.Room.{Room}
 use Rattle.pc_base.specs.AskFault.{Tells}
@@ -12,7 +12,7 @@ use Rattle.pc_account_history.specs.Known.{Known, said_by}
 use Rattle.pc_account_history.specs.Legal.{IsCanonical}
 use Rattle.pc_account.specs.declared.wish.Wish.TheVariants as wish
 use Rattle.pc_account.specs.Plan.{last_number, pulled_mails, planned, NumbersRise}
-use Rattle.pc_account.specs.Taking.{letter_of, front_count}
+use Rattle.pc_account.specs.Taking.{letter_of, parcel_for, front_count}
 use Rattle.pc_account.proofs.Waiting.{last-at, front-counted, front-within}
 use Rattle.pc_account.proofs.Settling.{settled-holds, settled-entry}
 
@@ -27,12 +27,12 @@ module _ (r : AccountRecord) (number : ℕ) (room : Room) (canonical : IsCanonic
   abbrev k : Known
   k = said_by r number
 
-  module _ (letters slice : List (List ℕ × List (List ℕ))) (count : ℕ) (made : letters ≡ map (letter_of k) mails) (seen : slice ≡ letters) (counted : count ≡ front_count k room (length slice) slice) (bound : count ≤ length slice) where
-    all_seen : slice ≡ map (letter_of k) mails
+  module _ (parcels slice : List (List ℕ × ℕ)) (count : ℕ) (made : parcels ≡ map (parcel_for k) mails) (seen : slice ≡ parcels) (counted : count ≡ front_count k room (length slice) slice) (bound : count ≤ length slice) where
+    all_seen : slice ≡ map (parcel_for k) mails
     all_seen = seen ∙ made
 
     within : count ≤ length mails
-    within = let long = ap length all_seen ∙ length-map mails (letter_of k) in omega (arith, bound, long)
+    within = let long = ap length all_seen ∙ length-map mails (parcel_for k) in omega (arith, bound, long)
 
     front : pulled_mails k room mails ≡ take count mails
     front =
@@ -40,13 +40,10 @@ module _ (r : AccountRecord) (number : ℕ) (room : Room) (canonical : IsCanonic
         ∙ ap (λ (n : ℕ). take n mails) (sym (
         counted
         ∙ (λ i. front_count k room (length (all_seen i)) (all_seen i))
-        ∙ ap (λ (n : ℕ). front_count k room n (map (letter_of k) mails)) (length-map mails (letter_of k))))
+        ∙ ap (λ (n : ℕ). front_count k room n (map (parcel_for k) mails)) (length-map mails (parcel_for k))))
 
     pub none-taken : count ≡ 0 → Tells (planned k (wish.Take mails room)) (Ok None)
     none-taken none = settled-holds k (wish.Take mails room) refl (ap (λ (ms : List Mail). length ms == 0) (front ∙ ap (λ (n : ℕ). take n mails) none))
-
-    pub first-letters : take (length (take count mails)) letters ≡ map (letter_of k) (take count mails)
-    first-letters = (λ i. take (length-take-le count mails within i) (made i)) ∙ take-map (letter_of k) count mails
 
     pub some-taken : 0 < count → (d : Mail) (first : List (List ℕ × List (List ℕ))) → first ≡ map (letter_of k) (take count mails) → Tells (planned k (wish.Take mails room)) (Ok (Some (entry.Pull (get_or mails (count - 1) d).number first)))
     some-taken some d first taken =

@@ -12,7 +12,7 @@ ghost use Rattle.pc_account_history.specs.Legal.{IsCanonical};
 ghost use Rattle.pc_account_spelling.specs.EntryForm.{entry_fits};
 ghost use Rattle.pc_account_records.specs.Legal.{accepts};
 ghost use Rattle.pc_account_holdings.specs.State.{said, StandsFor, may_follow};
-ghost use Rattle.pc_account.specs.Plan.{refused_where, refusal_of, holds, entry_of, planned, IsWish, IsAtOnce};
+ghost use Rattle.pc_account.specs.Plan.{refused_where, refusal_of, holds, planned, IsWish, IsAtOnce};
 
 use crate::account::Account;
 use crate::allowing::{
@@ -103,78 +103,15 @@ fn plan(alloc: Global, holdings: &Holdings, wish: &Wish) -> Result<Option<Entry>
             shown.as_slice(),
         ),
         Wish::Take { mails, room } => take(alloc, holdings, mails.as_slice(), *room),
-        Wish::MakeMailbox { mailbox } => {
-            settle(holdings, wish, Entry::MakeMailbox { mailbox: *mailbox })
-        }
-        Wish::DropMailbox { mailbox } => {
-            settle(holdings, wish, Entry::DropMailbox { mailbox: *mailbox })
-        }
-        Wish::Flag {
-            mailbox,
-            uid,
-            flag,
-            on,
-        } => {
-            let entry = Entry::Flag {
-                mailbox: *mailbox,
-                uid: *uid,
-                flag: *flag,
-                on: *on,
-            };
-            settle(holdings, wish, entry)
-        }
-        Wish::Expunge { mailbox } => {
-            settle(holdings, wish, Entry::Expunge { mailbox: *mailbox })
-        }
-        Wish::Copy {
-            mailbox,
-            uid,
-            target,
-        } => {
-            let entry = Entry::Copy {
-                mailbox: *mailbox,
-                uid: *uid,
-                target: *target,
-            };
-            settle(holdings, wish, entry)
-        }
-        Wish::MakeClient { client } => {
-            settle(holdings, wish, Entry::MakeClient { client: *client })
-        }
-        Wish::DropClient { client } => {
-            settle(holdings, wish, Entry::DropClient { client: *client })
-        }
-        Wish::ResetClient { client } => {
-            settle(holdings, wish, Entry::ResetClient { client: *client })
-        }
-        Wish::ResetMailbox { client, mailbox } => {
-            let entry = Entry::ResetMailbox {
-                client: *client,
-                mailbox: *mailbox,
-            };
-            settle(holdings, wish, entry)
-        }
-        Wish::Password { digest } => settle(holdings, wish, Entry::Password { digest: *digest }),
-        Wish::Subscribe { board } => settle(holdings, wish, Entry::Subscribe { board: *board }),
-        Wish::Unsubscribe { board } => {
-            settle(holdings, wish, Entry::Unsubscribe { board: *board })
-        }
-        Wish::Mark { board, uid } => {
-            let entry = Entry::Mark {
-                board: *board,
-                uid: *uid,
-            };
-            settle(holdings, wish, entry)
-        }
+        _ => settle(holdings, wish),
     }
 }
 
-/// What a wish comes to whose entry is this one, but for what stands against it.
-fn settle(holdings: &Holdings, wish: &Wish, entry: Entry) -> Result<Option<Entry>, AskFault>
+/// What a wish comes to that is settled without memory.
+fn settle(holdings: &Holdings, wish: &Wish) -> Result<Option<Entry>, AskFault>
     requires canonical { IsCanonical holdings.now.held holdings.now.next }
     requires wish { IsWish (said holdings.now) wish.now }
     requires at_once { IsAtOnce wish.now }
-    requires entry { entry ≡ entry_of (said holdings.now) wish.now }
     ensures exact { Tells (planned (said holdings.now) wish.now) result }
     ensures memory { IsNoMemory result }
 {
@@ -184,6 +121,7 @@ fn settle(holdings: &Holdings, wish: &Wish, entry: Entry) -> Result<Option<Entry
     if holds(holdings, wish) {
         return Ok(None);
     }
+    let entry = wish.entry();
     if let Some(limit) = limit_passed(holdings, &entry) {
         return Err(AskFault::Refused(Refusal::LimitReached { limit }));
     }

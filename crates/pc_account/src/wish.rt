@@ -1,5 +1,10 @@
 //! What is wished for.
 
+ghost use Rattle.std.specs.Prelude.{◌≡◌};
+ghost use Rattle.pc_account_history.specs.Known.{Known};
+ghost use Rattle.pc_account.specs.Plan.{entry_of, IsAtOnce};
+
+use pc_account_history::Entry;
 use pc_base::{Name, Room};
 use pc_mailbox::Shown;
 use pc_message::Mails;
@@ -81,4 +86,53 @@ pub enum Wish {
         board: Name,
         uid: u32,
     },
+}
+
+impl Wish {
+    /// The entry of a wish that is settled without memory, where nothing stands against it.
+    pub(crate) fn entry(&self) -> Entry
+        requires { IsAtOnce self.now }
+        ensures { (k : Known) → result ≡ entry_of k self.now }
+    {
+        match self {
+            Wish::MakeMailbox { mailbox } => Entry::MakeMailbox { mailbox: *mailbox },
+            Wish::DropMailbox { mailbox } => Entry::DropMailbox { mailbox: *mailbox },
+            Wish::Flag {
+                mailbox,
+                uid,
+                flag,
+                on,
+            } => Entry::Flag {
+                mailbox: *mailbox,
+                uid: *uid,
+                flag: *flag,
+                on: *on,
+            },
+            Wish::Expunge { mailbox } => Entry::Expunge { mailbox: *mailbox },
+            Wish::Copy {
+                mailbox,
+                uid,
+                target,
+            } => Entry::Copy {
+                mailbox: *mailbox,
+                uid: *uid,
+                target: *target,
+            },
+            Wish::MakeClient { client } => Entry::MakeClient { client: *client },
+            Wish::DropClient { client } => Entry::DropClient { client: *client },
+            Wish::ResetClient { client } => Entry::ResetClient { client: *client },
+            Wish::ResetMailbox { client, mailbox } => Entry::ResetMailbox {
+                client: *client,
+                mailbox: *mailbox,
+            },
+            Wish::Password { digest } => Entry::Password { digest: *digest },
+            Wish::Subscribe { board } => Entry::Subscribe { board: *board },
+            Wish::Unsubscribe { board } => Entry::Unsubscribe { board: *board },
+            Wish::Mark { board, uid } => Entry::Mark {
+                board: *board,
+                uid: *uid,
+            },
+            Wish::Forget { .. } | Wish::Take { .. } => unreachable!(),
+        }
+    }
 }
