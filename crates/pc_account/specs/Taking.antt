@@ -7,12 +7,17 @@ use Rattle.pc_message.specs.Message.{size_of}
 use Rattle.pc_tables.specs.Table.{total}
 use Rattle.pc_account_history.specs.Known.{Known}
 use Rattle.pc_account_history.specs.Allowed.{is_mailbox}
+use Rattle.pc_account_spelling.specs.EntryForm.{is_letter}
 use Rattle.pc_account.specs.Limits.{limit_of_parcels}
 use Rattle.pc_account.specs.Plan.{target_of}
 
 -- the message of a mail with the mailbox that it goes to
 abbrev pub letter_of : Known → Mail → List ℕ × List (List ℕ)
 letter_of k mail = (target_of k mail, mail.message)
+
+-- it fits its fields
+abbrev pub letter_fits : Known → Mail → Bool
+letter_fits k mail = is_letter (letter_of k mail)
 
 -- that mailbox, and the size of the message
 abbrev pub parcel_for : Known → Mail → List ℕ × ℕ

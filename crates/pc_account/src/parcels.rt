@@ -1,14 +1,15 @@
 //! Messages on their way to mailboxes, and the limits that they would pass.
 
-ghost use Rattle.std.specs.Prelude.{◌≡◌, ◌+◌, ◌*◌, ◌≤◌, ◌<◌, [], ◌∷◌, ◌++◌, length, map};
+ghost use Rattle.std.specs.Prelude.{◌≡◌, ◌+◌, ◌*◌, ◌≤◌, ◌<◌, [], ◌∷◌, ◌++◌, length, map, IsTrue};
 ghost use Rattle.std.specs.List.{list_all};
+ghost use Rattle.pc_base.specs.Name.{is_name};
 ghost use Rattle.pc_tables.specs.Table.{total};
 ghost use Rattle.pc_account_history.specs.Allowed.{messages};
 ghost use Rattle.pc_account_history.specs.Legal.{IsCanonical};
 ghost use Rattle.pc_account_holdings.specs.State.{said};
 ghost use Rattle.pc_account.specs.Plan.{target_of};
 ghost use Rattle.pc_account.specs.Limits.{parcel_of, parcels_to, weight_in, has_uids, has_places, limit_of_parcels};
-ghost use Rattle.pc_account.specs.Taking.{parcel_for};
+ghost use Rattle.pc_account.specs.Taking.{parcel_for, letter_fits};
 
 use crate::allowing::is_mailbox;
 use crate::limits::limit_of_changes;
@@ -49,10 +50,11 @@ impl Parcels {
         parcels
     }
 
-    /// Those of mails that wait.
+    /// Those of mails that wait. The letter of each fits its fields.
     pub fn of_mails(holdings: &Holdings, mails: &[Mail]) -> Parcels
         requires { length mails.now ≤ 64 }
-        ensures { result ≡ map (parcel_for (said holdings.now)) mails.now }
+        ensures parcels { result ≡ map (parcel_for (said holdings.now)) mails.now }
+        ensures fits { IsTrue (list_all (letter_fits (said holdings.now)) mails.now) }
     {
         let mut parcels = Parcels::none();
         for mail in mails {
@@ -91,10 +93,11 @@ impl Parcels {
 
 /// The mailbox that a mail goes to: its own, or else the one that can't be dropped.
 pub fn target_of(holdings: &Holdings, mail: &Mail) -> Name
-    ensures { result ≡ target_of (said holdings.now) mail.now }
+    ensures target { result ≡ target_of (said holdings.now) mail.now }
+    ensures name { IsTrue (is_name result) }
 {
     if is_mailbox(holdings, &mail.mailbox) {
-        return mail.mailbox;
+        return mail.mailbox.copy();
     }
     Name::inbox()
 }

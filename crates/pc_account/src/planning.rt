@@ -1,11 +1,10 @@
 //! What an account allows, and what wishes come to.
 
-ghost use Rattle.std.specs.Prelude.{◌≡◌, not, is_none, None, true, IsTrue, IfOk, IfSome};
+ghost use Rattle.std.specs.Prelude.{◌≡◌, not, is_none, None, IsTrue, IfOk, IfSome};
 ghost use Rattle.pc_base.specs.Name.{inbox};
 ghost use Rattle.pc_base.specs.AskFault.{Tells, IsNoMemory};
-ghost use Rattle.pc_account_history.specs.Allowed.{is_mailbox, is_client, is_allowed};
+ghost use Rattle.pc_account_history.specs.Allowed.{is_mailbox, is_client};
 ghost use Rattle.pc_account_history.specs.History.{History, known};
-ghost use Rattle.pc_account_history.specs.Known.{Known};
 ghost use Rattle.pc_tables.specs.Table.{same};
 ghost use Rattle.pc_account.specs.declared.wish.Wish.TheVariants as wish;
 ghost use Rattle.pc_account_history.specs.Legal.{IsCanonical};
@@ -25,7 +24,6 @@ use crate::taking::take;
 use crate::wish::Wish;
 use pc_account_history::Entry;
 use pc_account_holdings::Holdings;
-use pc_account_spelling::fits;
 use pc_base::{AskFault, Name, Refusal};
 use std::alloc::Global;
 
@@ -57,20 +55,8 @@ impl Account {
         ensures memory { IsAtOnce wish.now → IsNoMemory result }
         ensures history { (h : History) → StandsFor self.now h → Tells (planned (known h) wish.now) result }
     {
-        let planned = plan(alloc, &self.holdings, wish);
-        see_that_it_fits(&planned);
-        planned
+        plan(alloc, &self.holdings, wish)
     }
-}
-
-/// An entry that is allowed fits its fields.
-fn see_that_it_fits(plan: &Result<Option<Entry>, AskFault>)
-    ensures { IfOk plan.now (λ plan. IfSome plan (λ entry. (k : Known) → is_allowed k entry ≡ true → IsTrue (entry_fits entry))) }
-{
-    let Ok(Some(entry)) = plan else {
-        return;
-    };
-    let _ = fits(entry);
 }
 
 fn may_follow(holdings: &Holdings, entry: &Entry) -> bool
@@ -80,10 +66,12 @@ fn may_follow(holdings: &Holdings, entry: &Entry) -> bool
     is_allowed(holdings, entry) && limit_passed(holdings, entry).is_none()
 }
 
+/// What a wish comes to. The entry fits its fields.
 fn plan(alloc: Global, holdings: &Holdings, wish: &Wish) -> Result<Option<Entry>, AskFault>
     requires canonical { IsCanonical holdings.now.held holdings.now.next }
     requires wish { IsWish (said holdings.now) wish.now }
     ensures exact { Tells (planned (said holdings.now) wish.now) result }
+    ensures fits { IfOk result (λ plan. IfSome plan (λ entry. IsTrue (entry_fits entry))) }
     ensures memory { IsAtOnce wish.now → IsNoMemory result }
 {
     match wish {
@@ -113,6 +101,7 @@ fn settle(holdings: &Holdings, wish: &Wish) -> Result<Option<Entry>, AskFault>
     requires wish { IsWish (said holdings.now) wish.now }
     requires at_once { IsAtOnce wish.now }
     ensures exact { Tells (planned (said holdings.now) wish.now) result }
+    ensures fits { IfOk result (λ plan. IfSome plan (λ entry. IsTrue (entry_fits entry))) }
     ensures memory { IsNoMemory result }
 {
     if let Some(refusal) = refusal_of(holdings, wish) {

@@ -1,9 +1,10 @@
 //! Which of the mails that wait are taken.
 
-ghost use Rattle.std.specs.Prelude.{◌≡◌, ◌≤◌, length, map, IfOk};
+ghost use Rattle.std.specs.Prelude.{◌≡◌, ◌≤◌, length, map, IsTrue, IfOk, IfSome};
 ghost use Rattle.pc_base.specs.AskFault.{Tells};
 ghost use Rattle.pc_account_history.specs.Legal.{IsCanonical};
 ghost use Rattle.pc_account_holdings.specs.State.{said};
+ghost use Rattle.pc_account_spelling.specs.EntryForm.{entry_fits};
 ghost use Rattle.pc_account.specs.Plan.{planned, IsWish};
 ghost use Rattle.pc_account.specs.Taking.{letter_of, bytes_of_parcel, bytes_of_parcels, have_mailboxes, can_come, front_count};
 ghost use Rattle.pc_account.specs.declared.wish.Wish.TheVariants as wish;
@@ -16,7 +17,8 @@ use pc_base::{AskFault, Memory, Name, Room};
 use pc_message::{Letters, Mail};
 use std::alloc::Global;
 
-/// What the wish to take mails comes to. Which of them are taken is tried by their sizes alone.
+/// What the wish to take mails comes to. Which of them are taken is tried by their sizes
+/// alone. The entry fits its fields.
 pub fn take(
     alloc: Global,
     holdings: &Holdings,
@@ -25,7 +27,8 @@ pub fn take(
 ) -> Result<Option<Entry>, AskFault>
     requires canonical { IsCanonical holdings.now.held holdings.now.next }
     requires wish { IsWish (said holdings.now) (wish.Take mails.now room) }
-    ensures { Tells (planned (said holdings.now) (wish.Take mails.now room)) result }
+    ensures told { Tells (planned (said holdings.now) (wish.Take mails.now room)) result }
+    ensures fits { IfOk result (λ plan. IfSome plan (λ entry. IsTrue (entry_fits entry))) }
 {
     let parcels = Parcels::of_mails(holdings, mails);
     let count = longest_front(holdings, parcels.as_slice(), room);
