@@ -2,9 +2,9 @@ pub mod Accepted
 pub mod Bringing
 pub mod Brought
 pub mod Changed
+pub mod FirstOf
 pub mod Found
 pub mod FrontTaken
-pub mod OfParcels
 pub mod Passed
 pub mod Settling
 pub mod Spread

@@ -1,4 +1,4 @@
--- The longest front of the mails that wait is that of their letters, and its pull is allowed.
+-- The longest front of the mails that wait is that of their parcels, and its pull is allowed.
 use Rattle.std.proofs.Common.{◌≡◌, ℕ, zero, suc, ◌+◌, ◌<◌, ◌≤◌, ◌==◌, Bool, true, false, cond, ◌&&◌, nat_lt, nat_le, List, [], ◌∷◌, map, take, length, get_or, Option, None, Some, is_none, refl, sym, ◌∙◌, ap, subst, arith, lt-ltb, true≢false, length-take-le}
 use Rattle.std.proofs.lemmas.List.{length-map, take-map}
 use Rattle.std.specs.List.{list_all}
@@ -14,7 +14,7 @@ use Rattle.pc_account_history.specs.Limits.{limit_passed}
 use Rattle.pc_account_history.specs.Legal.{IsCanonical}
 use Rattle.pc_account.specs.Limits.{parcel_of, limit_of_parcels}
 use Rattle.pc_account.specs.Plan.{target_of, last_number, pull_of, pull_bytes, can_pull, longest_front, NumbersRise}
-use Rattle.pc_account.specs.Taking.{letter_of, bytes_of_letter, can_come, front_count}
+use Rattle.pc_account.specs.Taking.{letter_of, parcel_for, bytes_of_parcel, can_come, front_count}
 use Rattle.pc_account.proofs.Spread.{list_all-map, total-map}
 use Rattle.pc_account.proofs.Bringing.{limit-brought}
 use Rattle.pc_account.proofs.Brought.{pull-brings}
@@ -55,7 +55,11 @@ pull-allowed k mails past last some few live =
     at-most : (m n : ℕ) → m ≤ n → nat_le m n ≡ true
     at-most m n h = grind (arith, h)
 
--- ---- mails can be pulled where their letters can
+-- ---- mails can be pulled where their parcels can
+
+parcels-of-letters : (k : Known) (mails : List Mail) → map parcel_of (map (letter_of k) mails) ≡ map (parcel_for k) mails
+parcels-of-letters k [] = refl
+parcels-of-letters k (mail ∷ mails) = ap (λ (parcels : List (List ℕ × ℕ)). parcel_for k mail ∷ parcels) (parcels-of-letters k mails)
 
 module _ (r : AccountRecord) (number : ℕ) (room : Room) (canonical : IsCanonical r number) where
   abbrev k : Known
@@ -65,23 +69,26 @@ module _ (r : AccountRecord) (number : ℕ) (room : Room) (canonical : IsCanonic
     abbrev fits : Bool → Option LimitWord → ℕ → Bool
     fits live limit bytes = live && is_none limit && nat_lt 0 room.entries && nat_le bytes room.bytes
 
-    abbrev letters : List (List ℕ × List (List ℕ))
-    letters = map (letter_of k) mails
+    abbrev parcels : List (List ℕ × ℕ)
+    parcels = map (parcel_for k) mails
 
-    same-limit : (live : Bool) → list_all (λ (mail : Mail). is_mailbox k (target_of k mail)) mails ≡ live → fits live (limit_passed k (pull_of k mails)) (pull_bytes k mails) ≡ fits live (limit_of_parcels k (map parcel_of letters)) (pull_bytes k mails)
+    same-limit : (live : Bool) → list_all (λ (mail : Mail). is_mailbox k (target_of k mail)) mails ≡ live → fits live (limit_passed k (pull_of k mails)) (pull_bytes k mails) ≡ fits live (limit_of_parcels k parcels) (pull_bytes k mails)
     same-limit true h =
+        let letters = map (letter_of k) mails in
         let allowed = pull-allowed k mails past last some few h in
-        ap (λ limit. fits true limit (pull_bytes k mails)) (limit-brought r number canonical (pull_of k mails) (map parcel_of letters) (pull-brings r number (last_number mails) letters canonical.well_formed allowed))
+        ap (λ limit. fits true limit (pull_bytes k mails)) (
+        limit-brought r number canonical (pull_of k mails) (map parcel_of letters) (pull-brings r number (last_number mails) letters canonical.well_formed allowed)
+        ∙ ap (limit_of_parcels k) (parcels-of-letters k mails))
     same-limit false h = refl
 
-    pub pulled-as-letters : can_pull k room mails ≡ can_come k room letters
-    pulled-as-letters =
+    pub pulled-as-parcels : can_pull k room mails ≡ can_come k room parcels
+    pulled-as-parcels =
         same-limit (list_all (λ (mail : Mail). is_mailbox k (target_of k mail)) mails) refl
-        ∙ (λ i. fits (sym (list_all-map (λ (letter : List ℕ × List (List ℕ)). is_mailbox k letter.0) (letter_of k) mails) i) (limit_of_parcels k (map parcel_of letters)) (11 + sym (total-map bytes_of_letter (letter_of k) mails) i))
+        ∙ (λ i. fits (sym (list_all-map (λ (parcel : List ℕ × ℕ). is_mailbox k parcel.0) (parcel_for k) mails) i) (limit_of_parcels k parcels) (11 + sym (total-map bytes_of_parcel (parcel_for k) mails) i))
 
   module _ (mails : List Mail) (few : length mails ≤ MOST_LETTERS) (rise : NumbersRise k.pulled mails) where
-    abbrev waiting : List (List ℕ × List (List ℕ))
-    waiting = map (letter_of k) mails
+    abbrev waiting : List (List ℕ × ℕ)
+    waiting = map (parcel_for k) mails
 
     front-step : (b : Bool) (count less : ℕ) (front : List Mail) → front ≡ take less mails → cond b (take (suc count) mails) front ≡ take (cond b (suc count) less) mails
     front-step true count less front h = refl
@@ -93,18 +100,18 @@ module _ (r : AccountRecord) (number : ℕ) (room : Room) (canonical : IsCanonic
         let bounds = last-between k.pulled mails (suc count) rise (omega arith) le in
         let long : length (take (suc count) mails) ≡ suc count = length-take-le (suc count) mails le in
         let pulls : can_pull k room (take (suc count) mails) ≡ can_come k room (take (suc count) waiting) =
-        pulled-as-letters (take (suc count) mails) bounds.0 bounds.1 (omega (arith, long)) (omega (arith, long, le, few))
-        ∙ ap (can_come k room) (sym (take-map (letter_of k) (suc count) mails)) in
+        pulled-as-parcels (take (suc count) mails) bounds.0 bounds.1 (omega (arith, long)) (omega (arith, long, le, few))
+        ∙ ap (can_come k room) (sym (take-map (parcel_for k) (suc count) mails)) in
         (λ i. cond (pulls i) (take (suc count) mails) (longest_front k room count mails))
         ∙ front-step (can_come k room (take (suc count) waiting)) count (front_count k room count waiting) (longest_front k room count mails) (front-counted count (omega (arith, le)))
 
 -- ---- counting down
 
-pub front-here : (k : Known) (room : Room) (count : ℕ) (letters : List (List ℕ × List (List ℕ))) → 0 < count → can_come k room (take count letters) ≡ true → front_count k room count letters ≡ count
+pub front-here : (k : Known) (room : Room) (count : ℕ) (parcels : List (List ℕ × ℕ)) → 0 < count → can_come k room (take count parcels) ≡ true → front_count k room count parcels ≡ count
 front-here k room zero all some h = refl
 front-here k room (suc count) all some h = ap (λ b. cond b (suc count) (front_count k room count all)) h
 
-pub front-below : (k : Known) (room : Room) (count less : ℕ) (letters : List (List ℕ × List (List ℕ))) → suc less ≡ count → can_come k room (take count letters) ≡ false → front_count k room count letters ≡ front_count k room less letters
+pub front-below : (k : Known) (room : Room) (count less : ℕ) (parcels : List (List ℕ × ℕ)) → suc less ≡ count → can_come k room (take count parcels) ≡ false → front_count k room count parcels ≡ front_count k room less parcels
 front-below k room count less all e h = subst (λ (n : ℕ). can_come k room (take n all) ≡ false → front_count k room n all ≡ front_count k room less all) e (λ g. ap (λ b. cond b (suc less) (front_count k room less all)) g) h
 
 -- ---- what the longest front is

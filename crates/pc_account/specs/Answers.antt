@@ -1,5 +1,5 @@
 -- What a history answers to a question, and how an answer is told.
-use Rattle.std.specs.Prelude.{◌≡◌, ℕ, ⊤, ◌&&◌, nat_le, List, map, length, Result, Ok, Err, if◌then◌else◌}
+use Rattle.std.specs.Prelude.{ℕ, ⊤, ◌&&◌, nat_le, List, map, length, Result, Ok, Err, if◌then◌else◌}
 use Rattle.std.specs.Option.{option_map_or}
 use Rattle.std.specs.List.{filter}
 use Rattle.pc_base.specs.declared.refusal.Refusal.{Refusal}

@@ -1,31 +1,45 @@
--- Letters that wait, and how many of them can be pulled.
-use Rattle.std.specs.Prelude.{ℕ, zero, suc, ◌+◌, Bool, ◌&&◌, nat_lt, nat_le, List, map, take, length, is_none, if◌then◌else◌}
+-- Mails that wait, and how many of them can be pulled.
+use Rattle.std.specs.Prelude.{ℕ, zero, suc, ◌+◌, Bool, ◌&&◌, nat_lt, nat_le, List, take, length, is_none, if◌then◌else◌}
+use Rattle.std.specs.List.{list_all}
 use Rattle.pc_base.specs.declared.room.Room.{Room}
 use Rattle.pc_message.specs.declared.lists.Mail.{Mail}
 use Rattle.pc_message.specs.Message.{size_of}
 use Rattle.pc_tables.specs.Table.{total}
 use Rattle.pc_account_history.specs.Known.{Known}
-use Rattle.pc_account.specs.LookUps.{are_live}
-use Rattle.pc_account.specs.Limits.{parcel_of, limit_of_parcels}
+use Rattle.pc_account_history.specs.Allowed.{is_mailbox}
+use Rattle.pc_account_spelling.specs.EntryForm.{is_letter}
+use Rattle.pc_account.specs.Limits.{limit_of_parcels}
 use Rattle.pc_account.specs.Plan.{target_of}
 
 -- the message of a mail with the mailbox that it goes to
 abbrev pub letter_of : Known → Mail → List ℕ × List (List ℕ)
 letter_of k mail = (target_of k mail, mail.message)
 
--- the bytes of a letter in a journal
-abbrev pub bytes_of_letter : List ℕ × List (List ℕ) → ℕ
-bytes_of_letter letter = 5 + length letter.0 + size_of letter.1
+-- it fits its fields
+abbrev pub letter_fits : Known → Mail → Bool
+letter_fits k mail = is_letter (letter_of k mail)
 
--- the bytes of a pull of these letters in a journal
-abbrev pub bytes_of_letters : List (List ℕ × List (List ℕ)) → ℕ
-bytes_of_letters letters = 11 + total bytes_of_letter letters
+-- that mailbox, and the size of the message
+abbrev pub parcel_for : Known → Mail → List ℕ × ℕ
+parcel_for k mail = (target_of k mail, size_of mail.message)
 
--- these letters can be pulled: their mailboxes live, no limit is passed, and the journal has room
-abbrev pub can_come : Known → Room → List (List ℕ × List (List ℕ)) → Bool
-can_come k room letters = are_live k letters && is_none (limit_of_parcels k (map parcel_of letters)) && nat_lt 0 room.entries && nat_le (bytes_of_letters letters) room.bytes
+-- the bytes of a parcel's letter in a journal
+abbrev pub bytes_of_parcel : List ℕ × ℕ → ℕ
+bytes_of_parcel parcel = 5 + length parcel.0 + parcel.1
 
--- how many letters the longest front, of at most so many, has that can be pulled
-abbrev pub front_count : Known → Room → ℕ → List (List ℕ × List (List ℕ)) → ℕ
-front_count k room zero letters = 0
-front_count k room (suc count) letters = if can_come k room (take (suc count) letters) then suc count else front_count k room count letters
+-- the bytes of a pull of these parcels in a journal
+abbrev pub bytes_of_parcels : List (List ℕ × ℕ) → ℕ
+bytes_of_parcels parcels = 11 + total bytes_of_parcel parcels
+
+-- all parcels go to mailboxes that live
+abbrev pub have_mailboxes : Known → List (List ℕ × ℕ) → Bool
+have_mailboxes k parcels = list_all (λ (parcel : List ℕ × ℕ). is_mailbox k parcel.0) parcels
+
+-- these parcels can be pulled: their mailboxes live, no limit is passed, and the journal has room
+abbrev pub can_come : Known → Room → List (List ℕ × ℕ) → Bool
+can_come k room parcels = have_mailboxes k parcels && is_none (limit_of_parcels k parcels) && nat_lt 0 room.entries && nat_le (bytes_of_parcels parcels) room.bytes
+
+-- how many parcels the longest front, of at most so many, has that can be pulled
+abbrev pub front_count : Known → Room → ℕ → List (List ℕ × ℕ) → ℕ
+front_count k room zero parcels = 0
+front_count k room (suc count) parcels = if can_come k room (take (suc count) parcels) then suc count else front_count k room count parcels

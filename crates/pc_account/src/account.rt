@@ -5,9 +5,11 @@ ghost use Rattle.std.specs.Option.{option_map_or};
 ghost use Rattle.std.specs.Map.{lookup};
 ghost use Rattle.pc_base.specs.Machine.{FaultAt};
 ghost use Rattle.pc_tables.specs.Table.{same};
-ghost use Rattle.pc_account_history.specs.History.{History, ◌▸◌, known, birth, next};
+ghost use Rattle.pc_account_history.specs.History.{History, start, ◌▸◌, new_account, known, birth, next};
+ghost use Rattle.pc_account_history.specs.Legal.{IsLegal};
+ghost use Rattle.pc_account_history.specs.Step.{record_of};
 ghost use Rattle.pc_account_spelling.specs.Spelling.{spelled_record};
-ghost use Rattle.pc_account_spelling.specs.RecordForm.{IsRecordFault};
+ghost use Rattle.pc_account_spelling.specs.RecordForm.{IsRecordFault, fits_record};
 ghost use Rattle.pc_account_holdings.specs.State.{new_state, said, StandsFor, may_follow, step};
 ghost use Rattle.pc_account_records.specs.Legal.{IsCanonicalState};
 ghost use Rattle.pc_account_records.specs.Numbered.{suits, numbered};
@@ -40,7 +42,8 @@ impl Model for Account {
 impl Account {
     /// An account without entries.
     pub fn empty(alloc: Global) -> Result<Account, Memory>
-        ensures { IfOk result (λ account. account ≡ new_state) }
+        ensures state { IfOk result (λ account. account ≡ new_state) }
+        ensures history { IfOk result (λ account. StandsFor account new_account) }
     {
         Ok(Account {
             holdings: Holdings::empty(alloc),
@@ -107,10 +110,16 @@ impl Account {
 
     /// Reads the record of an account. `Malformed` names the first field at which no record goes
     /// on. The number of the next entry isn't in the record: until it is given by `number_from`, it
-    /// is past all that there can be.
+    /// is past all that there can be. What was saved of a legal history is loaded as its record.
     pub fn load(alloc: Global, bytes: &[u8]) -> Result<Account, ReadFault>
         ensures found { IfOk result (λ state. IsCanonicalState state × (spelled_record state.held ≡ bytes.now)) }
         ensures next { IfOk result (λ state. state.next ≡ 2 ^ 63) }
+        ensures base { IfOk result (λ state. StandsFor state (start state.held state.next)) }
+        ensures history { (h : History)
+            → IsLegal h
+            → IsTrue (fits_record (record_of h))
+            → spelled_record (record_of h) ≡ bytes.now
+            → IfOk result (λ state. record_of h ≡ state.held) }
         ensures fault { FaultAt result (IsRecordFault bytes.now) }
         ensures within { FaultAt result (λ place. place ≤ length bytes.now) }
     {
@@ -121,12 +130,19 @@ impl Account {
     }
 
     /// Gives an account that was just made or loaded the number of its next entry, and answers
-    /// whether it suits: it is past all births and stamps. If not, nothing changes.
+    /// whether it suits: it is past all births and stamps. If not, nothing changes. The account then
+    /// stands for each legal history with its record whose next entry has this number.
     pub fn number_from(&mut self, first: u64) -> bool
         requires some { 0 < first }
         requires most { first ≤ 2 ^ 63 }
         ensures answer { result ≡ suits self.old first }
         ensures state { self.new ≡ (if suits self.old first then numbered self.old first else self.old) }
+        ensures base { IsTrue result → StandsFor self.new (start self.old.held first) }
+        ensures history { (h : History)
+            → IsLegal h
+            → record_of h ≡ self.old.held
+            → next h ≡ first
+            → IsTrue result × StandsFor self.new h }
     {
         if !suits(&self.holdings, first) {
             return false;

@@ -224,7 +224,7 @@ fn may_pull(holdings: &Holdings, upto: u64, letters: &[(Name, Message)]) -> bool
 }
 
 /// Whether the mailbox of each letter lives.
-pub fn are_live(holdings: &Holdings, letters: &[(Name, Message)]) -> bool
+fn are_live(holdings: &Holdings, letters: &[(Name, Message)]) -> bool
     ensures { result ≡ are_live (said holdings.now) letters.now }
 {
     letters.iter().all(|letter| is_mailbox(holdings, &letter.0))

@@ -1,12 +1,14 @@
 //! What a client takes of the changes that it was shown.
 
 ghost use Rattle.std.specs.Prelude.{◌≡◌, ◌≤◌, ◌==◌, nat_le, false, length, slice_get, ◌<◌, IsTrue, OnOk, IfOk, IfSome};
-ghost use Rattle.std.specs.List.{position, position_or_len};
+ghost use Rattle.std.specs.List.{list_all, position, position_or_len};
 ghost use Rattle.std.specs.Option.{option_map_or};
 ghost use Rattle.pc_base.specs.AskFault.{Tells};
 ghost use Rattle.pc_account_history.specs.Legal.{IsCanonical};
 ghost use Rattle.pc_account_history.specs.Allowed.{is_mailbox};
 ghost use Rattle.pc_account_holdings.specs.State.{said};
+ghost use Rattle.pc_fields.specs.Fitting.{is_u32};
+ghost use Rattle.pc_account_spelling.specs.EntryForm.{entry_fits};
 ghost use Rattle.pc_account.specs.Plan.{planned, taken_uids, all_taken, with_taken, is_taken, inserted};
 ghost use Rattle.pc_account.specs.declared.wish.Wish.TheVariants as wish;
 
@@ -17,7 +19,7 @@ use pc_base::{AskFault, Memory, Name, Uids};
 use pc_mailbox::Mailbox;
 use std::alloc::Global;
 
-/// What the wish to forget comes to.
+/// What the wish to forget comes to. The entry fits its fields.
 pub fn forget(
     alloc: Global,
     holdings: &Holdings,
@@ -28,7 +30,8 @@ pub fn forget(
     shown: &[Listed],
 ) -> Result<Option<Entry>, AskFault>
     requires { IsCanonical holdings.now.held holdings.now.next }
-    ensures { Tells (planned (said holdings.now) (wish.Forget client.now mailbox.now low high shown.now)) result }
+    ensures told { Tells (planned (said holdings.now) (wish.Forget client.now mailbox.now low high shown.now)) result }
+    ensures fits { IfOk result (λ plan. IfSome plan (λ entry. IsTrue (entry_fits entry))) }
 {
     if let Some(refusal) = refusal_of_list(holdings, client, mailbox) {
         return Err(AskFault::Refused(refusal));
@@ -38,8 +41,8 @@ pub fn forget(
         return Ok(None);
     }
     Ok(Some(Entry::Forget {
-        client: *client,
-        mailbox: *mailbox,
+        client: client.copy(),
+        mailbox: mailbox.copy(),
         uids,
     }))
 }
@@ -56,7 +59,8 @@ fn taken_uids(
 ) -> Result<Uids, Memory>
     requires canonical { IsCanonical holdings.now.held holdings.now.next }
     requires lives { IsTrue (is_mailbox (said holdings.now) mailbox.now) }
-    ensures { IfOk result (λ uids. uids ≡ taken_uids (said holdings.now) client.now mailbox.now low high shown.now) }
+    ensures uids { IfOk result (λ uids. uids ≡ taken_uids (said holdings.now) client.now mailbox.now low high shown.now) }
+    ensures fits { IfOk result (λ uids. IsTrue (list_all is_u32 uids)) }
 {
     match holdings.mailbox(mailbox) {
         Some(holder) => taken_from(alloc, holder, client, low, high, shown),
@@ -72,7 +76,8 @@ fn taken_from(
     high: u32,
     shown: &[Listed],
 ) -> Result<Uids, Memory>
-    ensures { IfOk result (λ uids. uids ≡ all_taken client.now mailbox.now low high shown.now) }
+    ensures uids { IfOk result (λ uids. uids ≡ all_taken client.now mailbox.now low high shown.now) }
+    ensures fits { IfOk result (λ uids. IsTrue (list_all is_u32 uids)) }
 {
     let mut uids = Vec::new(alloc);
     for listed in shown {
@@ -83,7 +88,8 @@ fn taken_from(
 
 /// These uids as a list.
 fn uids_of(alloc: Global, all: &[u32]) -> Result<Uids, Memory>
-    ensures { IfOk result (λ uids. uids ≡ all.now) }
+    ensures uids { IfOk result (λ uids. uids ≡ all.now) }
+    ensures fits { IfOk result (λ uids. IsTrue (list_all is_u32 uids)) }
 {
     let mut uids = Uids::new(alloc);
     for uid in all {

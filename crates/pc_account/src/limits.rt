@@ -11,7 +11,7 @@ ghost use Rattle.pc_account_history.specs.Legal.{IsCanonical};
 ghost use Rattle.pc_account_holdings.specs.State.{said};
 ghost use Rattle.pc_account.specs.Limits.{limit_where, counts_in, unlisted_in};
 
-use crate::parcels::{limit_of_copy, limit_of_letters};
+use crate::parcels::{Parcels, limit_of_parcels};
 use pc_account_history::{Entry, MOST_CHANGES, MOST_CLIENTS, MOST_MAILBOXES, MOST_SUBSCRIPTIONS};
 use pc_account_holdings::Holdings;
 use pc_base::{LimitWord, Name};
@@ -80,7 +80,7 @@ fn limit_of_copied(
     ensures { result ≡ limit_passed (said holdings.now) (entry.Copy mailbox.now uid target.now) }
 {
     let message = holdings.mailbox(mailbox)?.body(uid)?;
-    limit_of_copy(holdings, target, message.size())
+    limit_of_parcels(holdings, &[(*target, message.size())])
 }
 
 fn limit_of_pull(holdings: &Holdings, upto: u64, letters: &[(Name, Message)]) -> Option<LimitWord>
@@ -88,7 +88,7 @@ fn limit_of_pull(holdings: &Holdings, upto: u64, letters: &[(Name, Message)]) ->
     requires allowed { IsTrue (is_allowed (said holdings.now) (entry.Pull upto letters.now)) }
     ensures { result ≡ limit_passed (said holdings.now) (entry.Pull upto letters.now) }
 {
-    limit_of_letters(holdings, letters)
+    limit_of_parcels(holdings, Parcels::of_letters(letters).as_slice())
 }
 
 fn limit_of_names(holdings: &Holdings, mailbox: &Name) -> Option<LimitWord>

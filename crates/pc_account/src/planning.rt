@@ -1,18 +1,17 @@
 //! What an account allows, and what wishes come to.
 
-ghost use Rattle.std.specs.Prelude.{◌≡◌, not, is_none, None, true, IsTrue, IfOk, IfSome};
+ghost use Rattle.std.specs.Prelude.{◌≡◌, not, is_none, None, IsTrue, IfOk, IfSome};
 ghost use Rattle.pc_base.specs.Name.{inbox};
 ghost use Rattle.pc_base.specs.AskFault.{Tells, IsNoMemory};
-ghost use Rattle.pc_account_history.specs.Allowed.{is_mailbox, is_client, is_allowed};
+ghost use Rattle.pc_account_history.specs.Allowed.{is_mailbox, is_client};
 ghost use Rattle.pc_account_history.specs.History.{History, known};
-ghost use Rattle.pc_account_history.specs.Known.{Known};
 ghost use Rattle.pc_tables.specs.Table.{same};
 ghost use Rattle.pc_account.specs.declared.wish.Wish.TheVariants as wish;
 ghost use Rattle.pc_account_history.specs.Legal.{IsCanonical};
 ghost use Rattle.pc_account_spelling.specs.EntryForm.{entry_fits};
 ghost use Rattle.pc_account_records.specs.Legal.{accepts};
 ghost use Rattle.pc_account_holdings.specs.State.{said, StandsFor, may_follow};
-ghost use Rattle.pc_account.specs.Plan.{refused_where, refusal_of, holds, entry_of, planned, IsWish, IsAtOnce};
+ghost use Rattle.pc_account.specs.Plan.{refused_where, refusal_of, holds, planned, IsWish, IsAtOnce};
 
 use crate::account::Account;
 use crate::allowing::{
@@ -25,7 +24,6 @@ use crate::taking::take;
 use crate::wish::Wish;
 use pc_account_history::Entry;
 use pc_account_holdings::Holdings;
-use pc_account_spelling::fits;
 use pc_base::{AskFault, Name, Refusal};
 use std::alloc::Global;
 
@@ -57,20 +55,8 @@ impl Account {
         ensures memory { IsAtOnce wish.now → IsNoMemory result }
         ensures history { (h : History) → StandsFor self.now h → Tells (planned (known h) wish.now) result }
     {
-        let planned = plan(alloc, &self.holdings, wish);
-        see_that_it_fits(&planned);
-        planned
+        plan(alloc, &self.holdings, wish)
     }
-}
-
-/// An entry that is allowed fits its fields.
-fn see_that_it_fits(plan: &Result<Option<Entry>, AskFault>)
-    ensures { IfOk plan.now (λ plan. IfSome plan (λ entry. (k : Known) → is_allowed k entry ≡ true → IsTrue (entry_fits entry))) }
-{
-    let Ok(Some(entry)) = plan else {
-        return;
-    };
-    let _ = fits(entry);
 }
 
 fn may_follow(holdings: &Holdings, entry: &Entry) -> bool
@@ -80,10 +66,12 @@ fn may_follow(holdings: &Holdings, entry: &Entry) -> bool
     is_allowed(holdings, entry) && limit_passed(holdings, entry).is_none()
 }
 
+/// What a wish comes to. The entry fits its fields.
 fn plan(alloc: Global, holdings: &Holdings, wish: &Wish) -> Result<Option<Entry>, AskFault>
     requires canonical { IsCanonical holdings.now.held holdings.now.next }
     requires wish { IsWish (said holdings.now) wish.now }
     ensures exact { Tells (planned (said holdings.now) wish.now) result }
+    ensures fits { IfOk result (λ plan. IfSome plan (λ entry. IsTrue (entry_fits entry))) }
     ensures memory { IsAtOnce wish.now → IsNoMemory result }
 {
     match wish {
@@ -103,79 +91,17 @@ fn plan(alloc: Global, holdings: &Holdings, wish: &Wish) -> Result<Option<Entry>
             shown.as_slice(),
         ),
         Wish::Take { mails, room } => take(alloc, holdings, mails.as_slice(), *room),
-        Wish::MakeMailbox { mailbox } => {
-            settle(holdings, wish, Entry::MakeMailbox { mailbox: *mailbox })
-        }
-        Wish::DropMailbox { mailbox } => {
-            settle(holdings, wish, Entry::DropMailbox { mailbox: *mailbox })
-        }
-        Wish::Flag {
-            mailbox,
-            uid,
-            flag,
-            on,
-        } => {
-            let entry = Entry::Flag {
-                mailbox: *mailbox,
-                uid: *uid,
-                flag: *flag,
-                on: *on,
-            };
-            settle(holdings, wish, entry)
-        }
-        Wish::Expunge { mailbox } => {
-            settle(holdings, wish, Entry::Expunge { mailbox: *mailbox })
-        }
-        Wish::Copy {
-            mailbox,
-            uid,
-            target,
-        } => {
-            let entry = Entry::Copy {
-                mailbox: *mailbox,
-                uid: *uid,
-                target: *target,
-            };
-            settle(holdings, wish, entry)
-        }
-        Wish::MakeClient { client } => {
-            settle(holdings, wish, Entry::MakeClient { client: *client })
-        }
-        Wish::DropClient { client } => {
-            settle(holdings, wish, Entry::DropClient { client: *client })
-        }
-        Wish::ResetClient { client } => {
-            settle(holdings, wish, Entry::ResetClient { client: *client })
-        }
-        Wish::ResetMailbox { client, mailbox } => {
-            let entry = Entry::ResetMailbox {
-                client: *client,
-                mailbox: *mailbox,
-            };
-            settle(holdings, wish, entry)
-        }
-        Wish::Password { digest } => settle(holdings, wish, Entry::Password { digest: *digest }),
-        Wish::Subscribe { board } => settle(holdings, wish, Entry::Subscribe { board: *board }),
-        Wish::Unsubscribe { board } => {
-            settle(holdings, wish, Entry::Unsubscribe { board: *board })
-        }
-        Wish::Mark { board, uid } => {
-            let entry = Entry::Mark {
-                board: *board,
-                uid: *uid,
-            };
-            settle(holdings, wish, entry)
-        }
+        _ => settle(holdings, wish),
     }
 }
 
-/// What a wish comes to whose entry is this one, but for what stands against it.
-fn settle(holdings: &Holdings, wish: &Wish, entry: Entry) -> Result<Option<Entry>, AskFault>
+/// What a wish comes to that is settled without memory.
+fn settle(holdings: &Holdings, wish: &Wish) -> Result<Option<Entry>, AskFault>
     requires canonical { IsCanonical holdings.now.held holdings.now.next }
     requires wish { IsWish (said holdings.now) wish.now }
     requires at_once { IsAtOnce wish.now }
-    requires entry { entry ≡ entry_of (said holdings.now) wish.now }
     ensures exact { Tells (planned (said holdings.now) wish.now) result }
+    ensures fits { IfOk result (λ plan. IfSome plan (λ entry. IsTrue (entry_fits entry))) }
     ensures memory { IsNoMemory result }
 {
     if let Some(refusal) = refusal_of(holdings, wish) {
@@ -184,6 +110,7 @@ fn settle(holdings: &Holdings, wish: &Wish, entry: Entry) -> Result<Option<Entry
     if holds(holdings, wish) {
         return Ok(None);
     }
+    let entry = wish.entry();
     if let Some(limit) = limit_passed(holdings, &entry) {
         return Err(AskFault::Refused(Refusal::LimitReached { limit }));
     }

@@ -1,5 +1,12 @@
 //! What is wished for.
 
+ghost use Rattle.std.specs.Prelude.{◌≡◌, IsTrue};
+ghost use Rattle.pc_account_history.specs.declared.entry.Entry.TheVariants as entry;
+ghost use Rattle.pc_account_history.specs.Known.{Known};
+ghost use Rattle.pc_account_spelling.specs.EntryForm.{entry_fits};
+ghost use Rattle.pc_account.specs.Plan.{entry_of, IsAtOnce};
+
+use pc_account_history::Entry;
 use pc_base::{Name, Room};
 use pc_mailbox::Shown;
 use pc_message::Mails;
@@ -81,4 +88,79 @@ pub enum Wish {
         board: Name,
         uid: u32,
     },
+}
+
+impl Wish {
+    /// The entry of a wish that is settled without memory, where nothing stands against it. It fits
+    /// its fields.
+    pub(crate) fn entry(&self) -> Entry
+        requires { IsAtOnce self.now }
+        ensures entry { (k : Known) → result ≡ entry_of k self.now }
+        ensures fits { IsTrue (entry_fits result) }
+    {
+        match self {
+            Wish::MakeMailbox { mailbox } => Entry::MakeMailbox {
+                mailbox: mailbox.copy(),
+            },
+            Wish::DropMailbox { mailbox } => Entry::DropMailbox {
+                mailbox: mailbox.copy(),
+            },
+            Wish::Flag {
+                mailbox,
+                uid,
+                flag,
+                on,
+            } => Entry::Flag {
+                mailbox: mailbox.copy(),
+                uid: *uid,
+                flag: *flag,
+                on: *on,
+            },
+            Wish::Expunge { mailbox } => Entry::Expunge {
+                mailbox: mailbox.copy(),
+            },
+            Wish::Copy {
+                mailbox,
+                uid,
+                target,
+            } => Entry::Copy {
+                mailbox: mailbox.copy(),
+                uid: *uid,
+                target: target.copy(),
+            },
+            Wish::MakeClient { client } => Entry::MakeClient {
+                client: client.copy(),
+            },
+            Wish::DropClient { client } => Entry::DropClient {
+                client: client.copy(),
+            },
+            Wish::ResetClient { client } => Entry::ResetClient {
+                client: client.copy(),
+            },
+            Wish::ResetMailbox { client, mailbox } => Entry::ResetMailbox {
+                client: client.copy(),
+                mailbox: mailbox.copy(),
+            },
+            Wish::Password { digest } => password(digest),
+            Wish::Subscribe { board } => Entry::Subscribe {
+                board: board.copy(),
+            },
+            Wish::Unsubscribe { board } => Entry::Unsubscribe {
+                board: board.copy(),
+            },
+            Wish::Mark { board, uid } => Entry::Mark {
+                board: board.copy(),
+                uid: *uid,
+            },
+            Wish::Forget { .. } | Wish::Take { .. } => unreachable!(),
+        }
+    }
+}
+
+/// The entry that sets the password.
+fn password(digest: &[u8; 32]) -> Entry
+    ensures entry { result ≡ entry.Password digest.now }
+    ensures fits { IsTrue (entry_fits result) }
+{
+    Entry::Password { digest: *digest }
 }

@@ -81,7 +81,7 @@ fn bring(
 }
 
 /// box0 has 4,095 messages, and box1 has one.
-const MESSAGES: [(&str, &str); 25] = [
+static MESSAGES: [(&str, &str); 25] = [
     ("MakeMailbox inbox", "MakeMailbox"),
     ("Mailboxes", "box0 4095 4095;box1 1 1;inbox 0 0;"),
     ("Pull 99 2 0 box0", "not allowed"),
@@ -111,7 +111,7 @@ const MESSAGES: [(&str, &str); 25] = [
 
 /// A message of 65,536 bytes counts for 65,792, and an empty one for 256. 255 of the first kind and
 /// one of the second are 16,777,216.
-const BYTES: [(&str, &str); 28] = [
+static BYTES: [(&str, &str); 28] = [
     ("MakeMailbox inbox", "MakeMailbox"),
     ("MakeMailbox work", "MakeMailbox"),
     ("Pull 1 64 65536 inbox", "Pull"),
@@ -145,7 +145,7 @@ const BYTES: [(&str, &str); 28] = [
 /// 16 clients, box0 to box14 with 4,096 empty messages each, box15 with 4,095, and box16 with none.
 /// With one more in box15 there are 65,536 messages, which weigh 16,777,216, and 1,048,576 changes
 /// are listed. What is gone stays on the lists until it is forgotten, or its client is dropped.
-const SEVERAL: [(&str, &str); 29] = [
+static SEVERAL: [(&str, &str); 29] = [
     ("Pull 9999 1 0 box15 box16", "not allowed"),
     ("Copy box0 1 box15", "Copy"),
     ("MakeClient more", "418 Limit reached clients"),
@@ -177,12 +177,12 @@ const SEVERAL: [(&str, &str); 29] = [
     ("Next", "1070"),
 ];
 
-const BEGINNING: [(&str, &str); 2] = [
+static BEGINNING: [(&str, &str); 2] = [
     ("MakeClient a", "MakeClient"),
     ("MakeMailbox box", "MakeMailbox"),
 ];
 
-const AGAIN: [(&str, &str); 2] = [
+static AGAIN: [(&str, &str); 2] = [
     ("DropMailbox box", "DropMailbox"),
     ("MakeMailbox box", "MakeMailbox"),
 ];
@@ -191,7 +191,7 @@ const AGAIN: [(&str, &str); 2] = [
 /// on live. One message in work, which is dropped, is one change more. With the 4,096 of a new
 /// client these are 1,048,577, one too many. Once a has forgotten one there is no room but where
 /// another change is forgotten.
-const CHANGES: [(&str, &str); 44] = [
+static CHANGES: [(&str, &str); 44] = [
     ("Next", "16831"),
     ("Mailboxes", "box 4096 1044480;"),
     ("MakeMailbox work", "MakeMailbox"),

@@ -42,7 +42,7 @@ fn nearly_out_of_uids(alloc: Global) -> Result<Account, Fail> {
     Ok(account)
 }
 
-const UIDS: [(&str, &str); 10] = [
+static UIDS: [(&str, &str); 10] = [
     ("Mailboxes", "inbox 0 999999999;"),
     ("Take 9 9999 1 10 inbox 1 10 inbox", "Pull"),
     ("Pulled", "3"),
@@ -55,7 +55,7 @@ const UIDS: [(&str, &str); 10] = [
     ("Copy work 1 inbox", "418 Limit reached uids"),
 ];
 
-const CLIENTS: [(&str, &str); 21] = [
+static CLIENTS: [(&str, &str); 21] = [
     ("MakeClient c1", "MakeClient"),
     ("MakeClient c2", "MakeClient"),
     ("MakeClient c3", "MakeClient"),
@@ -80,7 +80,7 @@ const CLIENTS: [(&str, &str); 21] = [
 ];
 
 /// The name of a mailbox that was dropped counts too, and under it one is made again.
-const MAILBOXES: [(&str, &str); 8] = [
+static MAILBOXES: [(&str, &str); 8] = [
     ("MakeMailbox more", "418 Limit reached mailboxes"),
     ("MakeMailbox box63", "410 Mailbox exists"),
     ("DropMailbox box7", "DropMailbox"),
@@ -92,7 +92,7 @@ const MAILBOXES: [(&str, &str); 8] = [
 ];
 
 /// A subscription that ended counts no more.
-const SUBSCRIPTIONS: [(&str, &str); 6] = [
+static SUBSCRIPTIONS: [(&str, &str); 6] = [
     ("Subscribe more", "418 Limit reached subscriptions"),
     ("Subscribe news63", "421 Already subscribed"),
     ("Unsubscribe news7", "Unsubscribe"),

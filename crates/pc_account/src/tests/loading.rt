@@ -1,13 +1,15 @@
 //! Records that were spelled by hand, field by field, and records with a field that is wrong.
 
+use super::holds;
 use crate::Account;
 use pc_base::{Bytes, ReadFault};
 use std::alloc::Global;
+use std::process::Abort;
 use std::test::Fail;
 
 /// A pull, a password, two clients, a mailbox that lives with a message and two changes of the first
 /// client, one that doesn't live with a change of the second client, and a subscription.
-const RECORD: &[u8] = b"\0\0\0\0\0\0\0\x07\x010123456789abcdef0123456789abcdef\
+static RECORD: &[u8] = b"\0\0\0\0\0\0\0\x07\x010123456789abcdef0123456789abcdef\
     \0\x02\x03ws1\0\0\0\0\0\0\0\x03\x03ws2\0\0\0\0\0\0\0\x04\
     \0\x02\x04box1\x01\0\0\0\x03\0\0\0\x01\0\0\0\x03\0\x02\0\0\0\x02\0\x07To: ann\0\0\
     \0\x02\x03ws1\0\0\0\x02\0\0\0\x01\0\0\0\0\0\0\0\x05\0\0\0\x03\0\0\0\0\0\0\0\x06\x03ws2\0\0\0\0\
@@ -16,13 +18,13 @@ const RECORD: &[u8] = b"\0\0\0\0\0\0\0\x07\x010123456789abcdef0123456789abcdef\
     \0\x01\x04news\0\0\0\x09";
 
 /// Where its fields begin.
-const FIELDS: [u64; 41] = [
+static FIELDS: [u64; 41] = [
     0, 8, 9, 41, 43, 47, 55, 59, 67, 69, 74, 75, 79, 83, 87, 89, 93, 102, 104, 106, 110, 114, 118,
     126, 130, 138, 142, 146, 151, 152, 156, 160, 162, 166, 170, 174, 178, 182, 190, 192, 197,
 ];
 
 /// A mailbox that doesn't live, and one that does.
-const DROPPED_FIRST: &[u8] =
+static DROPPED_FIRST: &[u8] =
     b"\0\0\0\0\0\0\0\0\0\0\0\0\x02\x04box1\0\0\0\0\0\0\0\0\0\0\0\x04box2\x01\0\0\0\0\0\0\0\0\0\0\0\0";
 
 /// Where the bytes stop being a record; nothing where they are one.
@@ -34,14 +36,21 @@ fn place_of(alloc: Global, bytes: &[u8]) -> Result<Option<u64>, Fail> {
     }
 }
 
-/// Where the record stops being one, once it has other bytes at these places.
-fn place_with(alloc: Global, changes: &[(usize, u8)]) -> Result<Option<u64>, Fail> {
+/// Looks whether the bytes stop being a record at this place.
+fn stops(rt: &impl Abort, alloc: Global, bytes: &[u8], place: Option<u64>) -> Result<(), Fail> {
+    let found = place_of(alloc, bytes)?;
+    assert_eq!(rt; found, place, "of {} bytes", bytes.len());
+    Ok(())
+}
+
+/// The record with other bytes at these places.
+fn changed(alloc: Global, changes: &[(usize, u8)]) -> Result<Vec<u8>, Fail> {
     let mut bytes = Vec::new(alloc);
     bytes.extend_from_slice(RECORD)?;
     for (at, byte) in changes {
         *bytes.get_mut(*at).ok_or("a place")? = *byte;
     }
-    place_of(alloc, &bytes)
+    Ok(bytes)
 }
 
 /// Whether the bytes are loaded, and saved as they were.
@@ -61,47 +70,41 @@ fn cut_field(count: u64) -> Option<u64> {
 
 #[test]
 fn a_new_account(rt: HostRuntime) -> Result<(), Fail> {
-    assert!(rt; is_saved_again(rt.alloc(), &[0; 15])?);
-    assert_eq!(rt; place_of(rt.alloc(), &[0; 14])?, Some(13));
-    assert_eq!(rt; place_of(rt.alloc(), &[0; 16])?, Some(15));
-    Ok(())
+    holds(&rt, "15 zeros", is_saved_again(rt.alloc(), &[0; 15])?);
+    stops(&rt, rt.alloc(), &[0; 14], Some(13))?;
+    stops(&rt, rt.alloc(), &[0; 16], Some(15))
 }
 
 #[test]
 fn a_record_of_all_fields(rt: HostRuntime) -> Result<(), Fail> {
-    assert!(rt; is_saved_again(rt.alloc(), RECORD)?);
+    holds(&rt, "all fields", is_saved_again(rt.alloc(), RECORD)?);
     let mut account = Account::load(rt.alloc(), RECORD).map_err(|_| "a record")?;
-    assert_eq!(rt; account.pulled(), 7);
-    assert!(rt; !account.number_from(7));
-    assert!(rt; account.number_from(8));
-    assert_eq!(rt; account.next(), 8);
+    holds(&rt, "pulled", account.pulled() == 7);
+    holds(&rt, "a stamp of 7", !account.number_from(7));
+    holds(&rt, "past all stamps", account.number_from(8));
+    holds(&rt, "next", account.next() == 8);
     Ok(())
 }
 
 #[test]
 fn a_record_that_is_cut_off(rt: HostRuntime) -> Result<(), Fail> {
     for count in 0..RECORD.len() {
-        let place = place_of(rt.alloc(), &RECORD[..count])?;
-        assert_eq!(rt; place, cut_field(count as u64), "after {count} bytes");
+        stops(&rt, rt.alloc(), &RECORD[..count], cut_field(count as u64))?;
     }
     Ok(())
 }
 
 #[test]
 fn a_field_that_is_wrong(rt: HostRuntime) -> Result<(), Fail> {
-    for (changes, place) in WRONG_FIELDS {
-        assert_eq!(rt;
-            place_with(rt.alloc(), changes)?,
-            Some(place),
-            "the field at {place}"
-        );
+    for (changes, place) in &WRONG_FIELDS {
+        let bytes = changed(rt.alloc(), changes)?;
+        stops(&rt, rt.alloc(), &bytes, Some(*place))?;
     }
-    assert_eq!(rt; place_of(rt.alloc(), DROPPED_FIRST)?, Some(34));
-    Ok(())
+    stops(&rt, rt.alloc(), DROPPED_FIRST, Some(34))
 }
 
 /// Other bytes, and the field at which the record stops being one.
-const WRONG_FIELDS: [(&[(usize, u8)], u64); 17] = [
+static WRONG_FIELDS: [(&[(usize, u8)], u64); 17] = [
     // a mail past the last one that can be pulled
     (&[(0, 128)], 0),
     // neither a password nor none

@@ -2,6 +2,7 @@
 
 ghost use Rattle.std.specs.Prelude.{◌<◌, ◌≤◌, ◌^◌};
 
+use super::holds;
 use crate::{Account, Entry};
 use pc_account_spelling::fits;
 use pc_base::{Bytes, Machine, Memory, Name};
@@ -53,8 +54,14 @@ fn saved<M: Machine>(alloc: Global, machine: &M) -> Result<Bytes, Memory> {
 fn a_new_account_is_fifteen_zeros(rt: HostRuntime) -> Result<(), Fail> {
     let account = begun(rt.alloc(), 1)?;
     let record = saved(rt.alloc(), &account)?;
-    assert_eq!(rt; record.as_slice(), [0; 15].as_slice());
+    holds(&rt, "the record", record.as_slice() == [0; 15].as_slice());
     Ok(())
+}
+
+/// Whether a store writes these bytes of an entry.
+fn is_written(alloc: Global, entry: &Entry, bytes: &[u8]) -> Result<bool, Fail> {
+    let written = written(alloc, entry)?;
+    Ok(written.as_slice() == bytes)
 }
 
 #[test]
@@ -62,11 +69,13 @@ fn a_mailbox_is_made(rt: HostRuntime) -> Result<(), Fail> {
     let mut account = begun(rt.alloc(), 7)?;
     let mailbox = Name::read(b"inbox").ok_or("a name")?;
     let entry = Entry::MakeMailbox { mailbox };
-    let bytes = written(rt.alloc(), &entry)?;
-    assert_eq!(rt; bytes.as_slice(), b"\x01\x05inbox".as_slice());
-    assert!(rt; is_entered(&mut account, rt.alloc(), &entry)?);
-    assert!(rt; !is_entered(&mut account, rt.alloc(), &entry)?);
-    assert_eq!(rt; account.next(), 8);
+    let is_spelled = is_written(rt.alloc(), &entry, b"\x01\x05inbox")?;
+    holds(&rt, "its bytes", is_spelled);
+    let is_made = is_entered(&mut account, rt.alloc(), &entry)?;
+    holds(&rt, "once", is_made);
+    let is_made = is_entered(&mut account, rt.alloc(), &entry)?;
+    holds(&rt, "twice", !is_made);
+    holds(&rt, "next", account.next() == 8);
     Ok(())
 }
 
@@ -76,8 +85,9 @@ fn an_entry_is_read_back(rt: HostRuntime) -> Result<(), Fail> {
     let Ok(entry) = read else {
         return Err("an entry")?;
     };
-    assert_eq!(rt; entry.word(), b"DropMailbox".as_slice());
+    holds(&rt, "its word", entry.word() == b"DropMailbox".as_slice());
     let mut account = begun(rt.alloc(), 1)?;
-    assert!(rt; !is_entered(&mut account, rt.alloc(), &entry)?);
+    let is_made = is_entered(&mut account, rt.alloc(), &entry)?;
+    holds(&rt, "no such mailbox", !is_made);
     Ok(())
 }

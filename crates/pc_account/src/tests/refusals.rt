@@ -1,5 +1,6 @@
 //! What is refused where several things are wrong, and what stands in the way of an entry.
 
+use super::holds;
 use super::player::plays;
 use crate::{Account, Entry};
 use pc_base::Name;
@@ -31,12 +32,12 @@ fn of_a_flag_past_the_last(rt: HostRuntime) -> Result<(), Fail> {
         flag: 16,
         on: true,
     };
-    assert!(rt; !account.allows(&entry));
+    holds(&rt, "flag 16", !account.allows(&entry));
     Ok(())
 }
 
 /// The mailbox comes before the message, and the message before the mailbox that it is copied to.
-const MAILBOXES_AND_MESSAGES: [(&str, &str); 26] = [
+static MAILBOXES_AND_MESSAGES: [(&str, &str); 26] = [
     ("DropMailbox inbox", "409 No such mailbox"),
     ("Expunge inbox", "409 No such mailbox"),
     ("Flag inbox 1 1 on", "409 No such mailbox"),
@@ -66,7 +67,7 @@ const MAILBOXES_AND_MESSAGES: [(&str, &str); 26] = [
 ];
 
 /// The client comes before the mailbox.
-const CLIENTS: [(&str, &str); 17] = [
+static CLIENTS: [(&str, &str); 17] = [
     ("DropClient ws1", "406 No such client"),
     ("ResetClient ws1", "406 No such client"),
     ("ResetMailbox ws1 inbox", "406 No such client"),
@@ -87,7 +88,7 @@ const CLIENTS: [(&str, &str); 17] = [
 ];
 
 /// A pull has letters, at most 64, for mailboxes that live, and a number past the last one.
-const PULLS: [(&str, &str); 13] = [
+static PULLS: [(&str, &str); 13] = [
     ("MakeMailbox inbox", "MakeMailbox"),
     ("Pull 1 0 9 inbox", "not allowed"),
     ("Pull 1 65 9 inbox", "not allowed"),

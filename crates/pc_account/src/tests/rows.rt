@@ -45,7 +45,7 @@ fn boards_and_passwords(rt: HostRuntime) -> Result<(), Fail> {
 }
 
 /// A client forgets what it was shown, but for a message whose flag was set in between.
-const A_FLAG_BETWEEN: [(&str, &str); 22] = [
+static A_FLAG_BETWEEN: [(&str, &str); 22] = [
     ("Password 1", "Password"),
     ("MakeMailbox inbox", "MakeMailbox"),
     ("MakeClient ws1", "MakeClient"),
@@ -71,7 +71,7 @@ const A_FLAG_BETWEEN: [(&str, &str); 22] = [
 ];
 
 /// Another client deletes a message that the first one has taken already.
-const AN_EXPUNGE_FROM_ELSEWHERE: [(&str, &str); 21] = [
+static AN_EXPUNGE_FROM_ELSEWHERE: [(&str, &str); 21] = [
     ("Password 1", "Password"),
     ("MakeMailbox inbox", "MakeMailbox"),
     ("MakeClient ws1", "MakeClient"),
@@ -96,7 +96,7 @@ const AN_EXPUNGE_FROM_ELSEWHERE: [(&str, &str); 21] = [
 ];
 
 /// A client sends what it isn't sure of again; each change that comes through is listed for itself too.
-const A_FLAG_THAT_IS_SENT_AGAIN: [(&str, &str); 17] = [
+static A_FLAG_THAT_IS_SENT_AGAIN: [(&str, &str); 17] = [
     ("Password 1", "Password"),
     ("MakeMailbox inbox", "MakeMailbox"),
     ("MakeClient w1", "MakeClient"),
@@ -117,7 +117,7 @@ const A_FLAG_THAT_IS_SENT_AGAIN: [(&str, &str); 17] = [
 ];
 
 /// A mailbox that is made again goes on with its uids and lists, and stands last.
-const A_MAILBOX_MADE_AGAIN: [(&str, &str); 20] = [
+static A_MAILBOX_MADE_AGAIN: [(&str, &str); 20] = [
     ("Password 1", "Password"),
     ("MakeMailbox inbox", "MakeMailbox"),
     ("MakeMailbox work", "MakeMailbox"),
@@ -144,7 +144,7 @@ const A_MAILBOX_MADE_AGAIN: [(&str, &str); 20] = [
 ];
 
 /// A client that is made again begins with all that lives, and stands last.
-const A_CLIENT_MADE_AGAIN: [(&str, &str); 16] = [
+static A_CLIENT_MADE_AGAIN: [(&str, &str); 16] = [
     ("Password 1", "Password"),
     ("MakeMailbox inbox", "MakeMailbox"),
     ("MakeClient ws1", "MakeClient"),
@@ -164,7 +164,7 @@ const A_CLIENT_MADE_AGAIN: [(&str, &str); 16] = [
 ];
 
 /// Each entry that touches messages, and for whom.
-const TOUCHES: [(&str, &str); 40] = [
+static TOUCHES: [(&str, &str); 40] = [
     ("MakeMailbox inbox", "MakeMailbox"),
     ("MakeMailbox work", "MakeMailbox"),
     ("MakeClient a", "MakeClient"),
@@ -208,7 +208,7 @@ const TOUCHES: [(&str, &str); 40] = [
 ];
 
 /// What a client takes of what it was shown: in range, as it was shown, once, and for itself alone.
-const FORGETS: [(&str, &str); 12] = [
+static FORGETS: [(&str, &str); 12] = [
     ("MakeMailbox inbox", "MakeMailbox"),
     ("MakeClient a", "MakeClient"),
     ("MakeClient b", "MakeClient"),
@@ -224,7 +224,7 @@ const FORGETS: [(&str, &str); 12] = [
 ];
 
 /// A copy has the flags of the message but for flag 0; descriptors come by rising uid.
-const COPIES: [(&str, &str); 18] = [
+static COPIES: [(&str, &str); 18] = [
     ("MakeMailbox inbox", "MakeMailbox"),
     ("Pull 1 1 9 inbox", "Pull"),
     ("Pull 2 1 2000 inbox", "Pull"),
@@ -248,7 +248,7 @@ const COPIES: [(&str, &str); 18] = [
     ("Mailboxes", "inbox 3 4;"),
 ];
 
-const BOARDS_AND_PASSWORDS: [(&str, &str); 21] = [
+static BOARDS_AND_PASSWORDS: [(&str, &str); 21] = [
     ("PasswordIs 0", "0"),
     ("Password 7", "Password"),
     ("Password 7", "none"),

@@ -20,7 +20,7 @@ fn sixty_four_mails(rt: HostRuntime) -> Result<(), Fail> {
 
 /// A mail whose mailbox isn't live goes to inbox. Where inbox isn't live either, the front ends
 /// before it, whatever comes behind.
-const WHERE: [(&str, &str); 24] = [
+static WHERE: [(&str, &str); 24] = [
     ("Take 9 9999", "none"),
     ("Take 9 9999 1 10 inbox", "none"),
     ("Take 9 9999 1 10 work", "none"),
@@ -52,7 +52,7 @@ const WHERE: [(&str, &str); 24] = [
 
 /// In a journal a pull takes 11 bytes, and for each letter 5, those of the name of the mailbox that
 /// it goes to, and those of the message. So one of 100 bytes to inbox takes 121, and two take 231.
-const ROOM: [(&str, &str); 27] = [
+static ROOM: [(&str, &str); 27] = [
     ("MakeMailbox inbox", "MakeMailbox"),
     ("MakeMailbox w", "MakeMailbox"),
     ("Take 0 9999 1 100 inbox", "none"),
@@ -83,7 +83,7 @@ const ROOM: [(&str, &str); 27] = [
 ];
 
 /// 64 messages of 2 bytes to inbox take 779 bytes in a journal.
-const MANY: [(&str, &str); 11] = [
+static MANY: [(&str, &str); 11] = [
     ("MakeMailbox inbox", "MakeMailbox"),
     ("Take 1 778 64 2 inbox", "Pull"),
     ("Pulled", "189"),

@@ -4,7 +4,7 @@ use super::words::{digest, name, number};
 use crate::{Account, Answer, ClientRow, MailboxRow, Question, SubscriptionRow};
 use pc_account_history::Listed;
 use pc_base::{AskFault, Name};
-use pc_message::Change;
+use pc_message::{Change, Descriptor};
 use std::alloc::Global;
 use std::test::Fail;
 
@@ -137,15 +137,30 @@ fn text_of(alloc: Global, answer: &Answer) -> Result<String, Fail> {
     }
 }
 
-fn word(name: &Name) -> Result<&str, Fail> {
-    Ok(str::from_utf8(name.bytes())?)
+/// Appends a number behind these letters.
+fn add(alloc: Global, told: &mut String, before: &str, number: u64) -> Result<(), Fail> {
+    let number = format!(in alloc; "{before}{number}")?;
+    told.push_str(&number)?;
+    Ok(())
+}
+
+/// Appends a name with a number.
+fn add_name(alloc: Global, told: &mut String, name: &Name, number: u64) -> Result<(), Fail> {
+    told.push_str(str::from_utf8(name.bytes())?)?;
+    add(alloc, told, " ", number)
+}
+
+/// Ends a row.
+fn end(told: &mut String) -> Result<(), Fail> {
+    told.push_str(";")?;
+    Ok(())
 }
 
 fn clients(alloc: Global, rows: &[ClientRow]) -> Result<String, Fail> {
     let mut told = String::new(alloc);
     for row in rows {
-        let text = format!(in alloc; "{} {};", word(&row.name)?, row.birth)?;
-        told.push_str(&text)?;
+        add_name(alloc, &mut told, &row.name, row.birth)?;
+        end(&mut told)?;
     }
     Ok(told)
 }
@@ -153,8 +168,9 @@ fn clients(alloc: Global, rows: &[ClientRow]) -> Result<String, Fail> {
 fn mailboxes(alloc: Global, rows: &[MailboxRow]) -> Result<String, Fail> {
     let mut told = String::new(alloc);
     for row in rows {
-        let text = format!(in alloc; "{} {} {};", word(&row.name)?, row.live, row.highest)?;
-        told.push_str(&text)?;
+        add_name(alloc, &mut told, &row.name, row.live as u64)?;
+        add(alloc, &mut told, " ", row.highest as u64)?;
+        end(&mut told)?;
     }
     Ok(told)
 }
@@ -162,8 +178,8 @@ fn mailboxes(alloc: Global, rows: &[MailboxRow]) -> Result<String, Fail> {
 fn subscriptions(alloc: Global, rows: &[SubscriptionRow]) -> Result<String, Fail> {
     let mut told = String::new(alloc);
     for row in rows {
-        let text = format!(in alloc; "{} {};", word(&row.board)?, row.mark)?;
-        told.push_str(&text)?;
+        add_name(alloc, &mut told, &row.board, row.mark as u64)?;
+        end(&mut told)?;
     }
     Ok(told)
 }
@@ -172,19 +188,27 @@ fn subscriptions(alloc: Global, rows: &[SubscriptionRow]) -> Result<String, Fail
 fn changes(alloc: Global, list: &[Change]) -> Result<String, Fail> {
     let mut told = String::new(alloc);
     for change in list {
-        told.push_str(&text_of_change(alloc, change)?)?;
+        add_change(alloc, &mut told, change)?;
     }
     Ok(told)
 }
 
-fn text_of_change(alloc: Global, change: &Change) -> Result<String, Fail> {
+fn add_change(alloc: Global, told: &mut String, change: &Change) -> Result<(), Fail> {
     match change {
-        Change::Present(told) => {
-            let (uid, flags, bytes, lines) = (told.uid, told.flags, told.bytes, told.lines);
-            Ok(format!(in alloc; "{uid} {flags} {bytes} {lines};")?)
+        Change::Present(descriptor) => add_descriptor(alloc, told, descriptor)?,
+        Change::Expunged(uid) => {
+            add(alloc, told, "", *uid as u64)?;
+            told.push_str(" EXPUNGED")?;
         }
-        Change::Expunged(uid) => Ok(format!(in alloc; "{uid} EXPUNGED;")?),
     }
+    end(told)
+}
+
+fn add_descriptor(alloc: Global, told: &mut String, descriptor: &Descriptor) -> Result<(), Fail> {
+    add(alloc, told, "", descriptor.uid as u64)?;
+    add(alloc, told, " ", descriptor.flags as u64)?;
+    add(alloc, told, " ", descriptor.bytes as u64)?;
+    add(alloc, told, " ", descriptor.lines as u64)
 }
 
 /// The list of a client in a mailbox that lives: each uid with its stamp.
@@ -210,8 +234,9 @@ fn stamps_of(alloc: Global, answer: &Answer) -> Result<String, Fail> {
 fn stamps(alloc: Global, list: &[Listed]) -> Result<String, Fail> {
     let mut told = String::new(alloc);
     for listed in list {
-        let text = format!(in alloc; "{} {};", listed.uid, listed.stamp)?;
-        told.push_str(&text)?;
+        add(alloc, &mut told, "", listed.uid as u64)?;
+        add(alloc, &mut told, " ", listed.stamp)?;
+        end(&mut told)?;
     }
     Ok(told)
 }

@@ -20,6 +20,6 @@ returns c =
     let mailbox = c.args.mailbox.now in
     let message = c.in_ok-message.message.now in
     let box = c.in_ok-mailbox.field-0.now in
-    c.limit_of_copy.ensures
+    c.limit_of_parcels.ensures
     ∙ ap (λ (size : ℕ). limit_of_parcels (said c.args.holdings.now) ((c.args.target.now, size) ∷ [])) c.size.ensures.size
     ∙ copied-limit r number mailbox c.args.uid c.args.target.now message (kept_at c.args.uid box.messages) c.requires.canonical c.requires.allowed (ap (λ (b : MailboxRecord). kept_at c.args.uid b.messages) (live-found r mailbox box c.in_ok-mailbox.ensures)) c.in_ok-message.ensures.value

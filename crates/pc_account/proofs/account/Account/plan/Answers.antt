@@ -9,10 +9,10 @@ use Rattle.pc_account.proofs.Settling.{plan-follows}
 use Rattle.pc_account.proofs.account.Account.plan.Goals as goal
 
 pub returns-clause-history : goal.returns-clause-history
-returns-clause-history c = λ h stands. subst (λ (k : Known). Tells (planned k c.args.wish.now) c.plan-planned.result) (said_is_known c.args.self.now h stands) (subst (λ (s : State). Tells (planned (said s) c.args.wish.now) c.plan-planned.result) c.self.view_is c.plan-planned.ensures.exact)
+returns-clause-history c = λ h stands. subst (λ (k : Known). Tells (planned k c.args.wish.now) c.plan.result) (said_is_known c.args.self.now h stands) (subst (λ (s : State). Tells (planned (said s) c.args.wish.now) c.plan.result) c.self.view_is c.plan.ensures.exact)
 
 pub returns-clause-allowed : goal.returns-clause-allowed
-returns-clause-allowed c = plan-follows (said c.args.self.now) c.args.wish.now c.requires c.plan-planned.result (subst (λ (s : State). Tells (planned (said s) c.args.wish.now) c.plan-planned.result) c.self.view_is c.plan-planned.ensures.exact)
+returns-clause-allowed c = plan-follows (said c.args.self.now) c.args.wish.now c.requires c.plan.result (subst (λ (s : State). Tells (planned (said s) c.args.wish.now) c.plan.result) c.self.view_is c.plan.ensures.exact)
 
 pub returns-clause-accepted : goal.returns-clause-accepted
-returns-clause-accepted c = plan-accepted c.args.self.now c.args.wish.now c.requires c.plan-planned.result (subst (λ (s : State). Tells (planned (said s) c.args.wish.now) c.plan-planned.result) c.self.view_is c.plan-planned.ensures.exact) c.see_that_it_fits.ensures
+returns-clause-accepted c = plan-accepted c.args.self.now c.args.wish.now c.requires c.plan.result (subst (λ (s : State). Tells (planned (said s) c.args.wish.now) c.plan.result) c.self.view_is c.plan.ensures.exact) c.plan.ensures.fits
