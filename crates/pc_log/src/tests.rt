@@ -87,9 +87,10 @@ fn the_worked_area_is_made(rt: HostRuntime) -> Result<(), Fail> {
     let mailbox = Bytes::copy_of(alloc, &AREA[88..95])?;
     log.prepare(&mut disk, 7)?;
     log.append(&mut disk, &mailbox)?;
-    let mut buffer = [9; 100];
-    holds(&rt, "the length", disk.read(0, 0, &mut buffer) == Ok(96));
-    holds(&rt, "the bytes", &buffer[..96] == AREA.as_slice());
+    let mut buffer = [9; 96];
+    holds(&rt, "the length", disk.length(0) == Ok(96));
+    holds(&rt, "all of it", disk.read(0, 0, &mut buffer) == Ok(96));
+    holds(&rt, "the bytes", buffer == AREA);
     Ok(())
 }
 
