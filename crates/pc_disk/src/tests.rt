@@ -9,6 +9,16 @@ use std::alloc::Global;
 use std::process::Abort;
 use std::test::Fail;
 
+// Asserts what a row says; the row is told where it doesn't hold.
+fn holds(rt: &impl Abort, row: &str, is: bool) {
+    assert!(rt; is, "{row}");
+}
+
+// Asserts what is said of the k-th call.
+fn holds_at(rt: &impl Abort, what: &str, k: u32, is: bool) {
+    assert!(rt; is, "{what}, call {k}");
+}
+
 // Which of the four calls succeed.
 fn four_calls(disk: &mut MemoryDisk) -> [bool; 4]
     requires calls { 4 ≤ disk.old.spare_calls }
@@ -63,10 +73,15 @@ fn fails_at(
 {
     let mut disk = roomy(alloc)?;
     disk.fail_at(k);
-    assert!(rt; four_calls(&mut disk) == succeed);
-    assert!(rt; !disk.stopped());
-    assert!(rt; is_read(&mut disk, read));
-    assert!(rt; is_read(&mut disk.crashed(), left));
+    holds_at(rt, "which fail", k, four_calls(&mut disk) == succeed);
+    holds_at(rt, "goes on", k, !disk.stopped());
+    holds_at(rt, "what is read", k, is_read(&mut disk, read));
+    holds_at(
+        rt,
+        "what a crash leaves",
+        k,
+        is_read(&mut disk.crashed(), left),
+    );
     Ok(())
 }
 
@@ -93,13 +108,15 @@ fn stops_at(rt: &impl Abort, alloc: Global, k: u32, choice: Choice, left: &[u8])
 {
     let mut disk = roomy(alloc)?;
     disk.stop_at(k, choice);
-    assert!(rt; four_calls(&mut disk) == [1 < k, 2 < k, 3 < k, 4 < k]);
-    assert!(rt; disk.stopped() == (k < 5));
-    assert!(rt; disk.length(0).is_err() == (k < 5));
-    assert!(rt; disk.read(0, 0, &mut [0; 1]).is_err() == (k < 5));
+    let succeed = [1 < k, 2 < k, 3 < k, 4 < k];
+    holds_at(rt, "which fail", k, four_calls(&mut disk) == succeed);
+    holds_at(rt, "stops", k, disk.stopped() == (k < 5));
+    holds_at(rt, "no length", k, disk.length(0).is_err() == (k < 5));
+    let fails = disk.read(0, 0, &mut [0; 1]).is_err();
+    holds_at(rt, "no read", k, fails == (k < 5));
     let mut crashed = disk.crashed();
-    assert!(rt; !crashed.stopped());
-    assert!(rt; is_read(&mut crashed, left));
+    holds_at(rt, "goes on after a crash", k, !crashed.stopped());
+    holds_at(rt, "what a crash leaves", k, is_read(&mut crashed, left));
     Ok(())
 }
 
@@ -138,9 +155,14 @@ fn fails_and_stops(
     let mut disk = roomy(alloc)?;
     disk.fail_at(fails);
     disk.stop_at(stops, choice);
-    assert!(rt; four_calls(&mut disk) == succeed);
-    assert!(rt; disk.stopped());
-    assert!(rt; is_read(&mut disk.crashed(), left));
+    holds_at(rt, "which fail", fails, four_calls(&mut disk) == succeed);
+    holds_at(rt, "stops", fails, disk.stopped());
+    holds_at(
+        rt,
+        "what a crash leaves",
+        fails,
+        is_read(&mut disk.crashed(), left),
+    );
     Ok(())
 }
 
@@ -172,8 +194,12 @@ fn crash_of_area_1(
     disk.write(1, 1, &[8])?;
     disk.stop_at(1, choice);
     let mut crashed = disk.crashed();
-    assert!(rt; has(&mut crashed, 0, &[]));
-    assert!(rt; has(&mut crashed, 1, left));
+    holds(rt, "area 0 is empty", has(&mut crashed, 0, &[]));
+    holds(
+        rt,
+        "what a crash leaves in area 1",
+        has(&mut crashed, 1, left),
+    );
     Ok(())
 }
 
@@ -190,27 +216,37 @@ fn both_areas_are_read(rt: HostRuntime) -> Result<(), Fail> {
     let mut disk = roomy(rt.alloc())?;
     disk.write(0, 0, &[5; 1])?;
     disk.write(1, 0, &[1, 2, 3, 4])?;
-    assert!(rt; disk.length(0) == Ok(1));
-    assert!(rt; disk.length(1) == Ok(4));
+    holds(&rt, "length of area 0", disk.length(0) == Ok(1));
+    holds(&rt, "length of area 1", disk.length(1) == Ok(4));
     let mut buffer = [0; 2];
-    assert!(rt; disk.read(1, 1, &mut buffer) == Ok(2));
-    assert!(rt; buffer == [2, 3]);
-    assert!(rt; disk.read(1, 3, &mut buffer) == Ok(1));
-    assert!(rt; buffer == [4, 3]);
-    assert!(rt; disk.read(1, 9, &mut buffer) == Ok(0));
+    holds(&rt, "two bytes", disk.read(1, 1, &mut buffer) == Ok(2));
+    holds(&rt, "the two", buffer == [2, 3]);
+    holds(&rt, "one byte", disk.read(1, 3, &mut buffer) == Ok(1));
+    holds(&rt, "the one", buffer == [4, 3]);
+    holds(&rt, "past the end", disk.read(1, 9, &mut buffer) == Ok(0));
     Ok(())
 }
 
 #[test]
 fn steps_are_settled(rt: HostRuntime) -> Result<(), Fail> {
     let mut disk = roomy(rt.alloc())?;
-    assert!(rt; put(&mut disk, 0, 0, &[1, 2, 3]) == Ok(()));
-    assert!(rt; trim(&mut disk, 0, 2) == Ok(()));
-    assert!(rt; is_read(&mut disk.crashed(), &[1, 2]));
-    let mut failing = roomy(rt.alloc())?;
-    failing.fail_at(2);
-    assert!(rt; put(&mut failing, 0, 0, &[1, 2, 3]) == Err(StepFault::Sync));
-    assert!(rt; is_read(&mut failing.crashed(), &[]));
+    put(&mut disk, 0, 0, &[1, 2, 3])?;
+    trim(&mut disk, 0, 2)?;
+    holds(
+        &rt,
+        "both are settled",
+        is_read(&mut disk.crashed(), &[1, 2]),
+    );
+    Ok(())
+}
+
+#[test]
+fn a_step_fails_at_its_sync(rt: HostRuntime) -> Result<(), Fail> {
+    let mut disk = roomy(rt.alloc())?;
+    disk.fail_at(2);
+    let fault = Err(StepFault::Sync);
+    holds(&rt, "the sync", put(&mut disk, 0, 0, &[1, 2, 3]) == fault);
+    holds(&rt, "nothing is settled", is_read(&mut disk.crashed(), &[]));
     Ok(())
 }
 
@@ -261,15 +297,15 @@ fn names() -> Result<[StoreName; 4], Fail> {
 fn each_name_has_its_disk(rt: HostRuntime) -> Result<(), Fail> {
     let mut folder = MemoryFolder::new(rt.alloc());
     let [office, ann, bob, client] = names()?;
-    assert!(rt; stands(&mut folder, &ann, &[]));
+    holds(&rt, "no disk yet", stands(&mut folder, &ann, &[]));
     store_in(&mut folder, &office, &[1])?;
     store_in(&mut folder, &ann, &[2, 2])?;
     store_in(&mut folder, &client, &[3])?;
     store_in(&mut folder, &ann, &[4])?;
-    assert!(rt; stands(&mut folder, &office, &[1]));
-    assert!(rt; stands(&mut folder, &ann, &[4, 2]));
-    assert!(rt; stands(&mut folder, &bob, &[]));
-    assert!(rt; stands(&mut folder, &client, &[3]));
+    holds(&rt, "the office's", stands(&mut folder, &office, &[1]));
+    holds(&rt, "ann's", stands(&mut folder, &ann, &[4, 2]));
+    holds(&rt, "bob's", stands(&mut folder, &bob, &[]));
+    holds(&rt, "the client's", stands(&mut folder, &client, &[3]));
     Ok(())
 }
 
@@ -280,10 +316,10 @@ fn a_disk_is_given_back_under_another_name(rt: HostRuntime) -> Result<(), Fail> 
     store_in(&mut folder, &office, &[1])?;
     store_in(&mut folder, &ann, &[2])?;
     let disk = folder.take(&ann)?;
-    assert!(rt; stands(&mut folder, &ann, &[]));
+    holds(&rt, "ann's is taken", stands(&mut folder, &ann, &[]));
     folder.back(&office, disk);
-    assert!(rt; stands(&mut folder, &office, &[2]));
-    assert!(rt; stands(&mut folder, &bob, &[]));
+    holds(&rt, "the office has it", stands(&mut folder, &office, &[2]));
+    holds(&rt, "bob has none", stands(&mut folder, &bob, &[]));
     Ok(())
 }
 
@@ -293,9 +329,9 @@ fn a_folder_fails(rt: HostRuntime) -> Result<(), Fail> {
     let [office, ..] = names()?;
     store_in(&mut folder, &office, &[1])?;
     folder.fail_at(2);
-    assert!(rt; stands(&mut folder, &office, &[1]));
-    assert!(rt; folder.take(&office).is_err());
-    assert!(rt; stands(&mut folder, &office, &[1]));
+    holds(&rt, "the first", stands(&mut folder, &office, &[1]));
+    holds(&rt, "the second fails", folder.take(&office).is_err());
+    holds(&rt, "the third", stands(&mut folder, &office, &[1]));
     Ok(())
 }
 
@@ -307,15 +343,15 @@ fn a_disk_in_a_folder_is_armed(rt: HostRuntime) -> Result<(), Fail> {
     let mut armed = MemoryDisk::new(rt.alloc());
     armed.fail_at(1);
     let empty = disk.exchange(armed);
-    assert!(rt; !empty.stopped());
+    holds(&rt, "the one before is whole", !empty.stopped());
     folder.back(&office, disk);
     let mut disk = folder.take(&office)?;
     let Ok(()) = disk.reserve(0, 8) else {
         return Err(Fail::from("memory"));
     };
-    assert!(rt; disk.write(0, 0, &[1]).is_err());
-    assert!(rt; disk.write(0, 0, &[2]).is_ok());
-    assert!(rt; is_read(&mut disk, &[2]));
+    holds(&rt, "the first fails", disk.write(0, 0, &[1]).is_err());
+    holds(&rt, "the second", disk.write(0, 0, &[2]).is_ok());
+    holds(&rt, "what is read", is_read(&mut disk, &[2]));
     Ok(())
 }
 
@@ -332,13 +368,13 @@ fn a_disk_that_tells_nothing(rt: HostRuntime) -> Result<(), Fail> {
     let mut inner = MemoryDisk::new(rt.alloc());
     inner.fail_at(3);
     let mut disk = SilentDisk::new(inner);
-    assert!(rt; puts(&mut disk, 0, &[1, 2]));
-    assert!(rt; !puts(&mut disk, 2, &[3, 4]));
-    assert!(rt; is_read(&mut disk, &[1, 2]));
-    assert!(rt; !puts(&mut disk, 3, &[5, 6]));
-    assert!(rt; puts(&mut disk, 2, &[7, 8]));
-    assert!(rt; is_read(&mut disk, &[1, 2, 7, 8]));
-    assert!(rt; disk.length(0) == Ok(4));
+    holds(&rt, "is put", puts(&mut disk, 0, &[1, 2]));
+    holds(&rt, "the third call fails", !puts(&mut disk, 2, &[3, 4]));
+    holds(&rt, "what is read", is_read(&mut disk, &[1, 2]));
+    holds(&rt, "past the end", !puts(&mut disk, 3, &[5, 6]));
+    holds(&rt, "at the end", puts(&mut disk, 2, &[7, 8]));
+    holds(&rt, "what is read then", is_read(&mut disk, &[1, 2, 7, 8]));
+    holds(&rt, "its length", disk.length(0) == Ok(4));
     Ok(())
 }
 

@@ -3,7 +3,7 @@
 
 ghost use Rattle.std.specs.Prelude.{◌≡◌, ◌<◌, ◌≤◌, IfOk, []};
 
-use crate::{AppendFault, Found, Log, LogFault};
+use crate::{AppendFault, Found, Log, LogFault, PlacedEntry};
 use pc_base::Bytes;
 use pc_disk::{Choice, Disk, MemoryDisk};
 use std::alloc::Global;
@@ -24,6 +24,26 @@ enum Seen {
     NotMade,
     Fault(u64),
     Made(u64, u64, usize, usize),
+}
+
+// Asserts what a row says; the row is told where it doesn't hold.
+fn holds(rt: &impl Abort, row: &str, is: bool) {
+    assert!(rt; is, "{row}");
+}
+
+// Asserts what is seen of an area in this row.
+fn sees(rt: &impl Abort, row: usize, found: Seen, wanted: Seen) {
+    assert_eq!(rt; found, wanted, "{row}");
+}
+
+// Asserts what the k-th device call of an append leads to.
+fn answer_is(
+    rt: &impl Abort,
+    k: u32,
+    found: Result<(), AppendFault>,
+    wanted: Result<(), AppendFault>,
+) {
+    assert!(rt; found == wanted, "{k}");
 }
 
 // The area of account 0 as it is opened.
@@ -67,10 +87,16 @@ fn the_worked_area_is_made(rt: HostRuntime) -> Result<(), Fail> {
     let mailbox = Bytes::copy_of(alloc, &AREA[88..95])?;
     log.prepare(&mut disk, 7)?;
     log.append(&mut disk, &mailbox)?;
-    let mut buffer = [9; 100];
-    assert_eq!(rt; disk.read(0, 0, &mut buffer)?, 96);
-    assert!(rt; &buffer[..96] == AREA.as_slice());
+    let mut buffer = [9; 96];
+    holds(&rt, "the length", disk.length(0) == Ok(96));
+    holds(&rt, "all of it", disk.read(0, 0, &mut buffer) == Ok(96));
+    holds(&rt, "the bytes", buffer == AREA);
     Ok(())
+}
+
+// Whether an entry was found at this place with these bytes.
+fn is_entry(entry: &PlacedEntry, place: u64, bytes: &[u8]) -> bool {
+    entry.place == place && entry.bytes.as_slice() == bytes
 }
 
 #[test]
@@ -89,12 +115,12 @@ fn the_worked_area_is_opened(rt: HostRuntime) -> Result<(), Fail> {
     else {
         return Err(Fail::from("the area is made"));
     };
-    assert!(rt; base.as_slice() == [0; 15].as_slice());
-    assert_eq!(rt; entries.len(), 2);
-    assert_eq!(rt; entries[0].place, 45);
-    assert!(rt; entries[0].bytes.as_slice() == &AREA[50..83]);
-    assert_eq!(rt; entries[1].place, 83);
-    assert!(rt; entries[1].bytes.as_slice() == &AREA[88..95]);
+    holds(&rt, "the base", base.as_slice() == [0; 15].as_slice());
+    let [password, mailbox] = entries.as_slice() else {
+        return Err(Fail::from("two entries"));
+    };
+    holds(&rt, "the password", is_entry(password, 45, &AREA[50..83]));
+    holds(&rt, "the mailbox", is_entry(mailbox, 83, &AREA[88..95]));
     Ok(())
 }
 
@@ -124,7 +150,7 @@ fn fronts_are_malformed(rt: HostRuntime) -> Result<(), Fail> {
     let alloc = rt.alloc();
     for count in 0..97 {
         let mut disk = holding(alloc, &AREA[..count])?;
-        assert_eq!(rt; look(alloc, &mut disk)?, front_seen(count), "{count}");
+        sees(&rt, count, look(alloc, &mut disk)?, front_seen(count));
     }
     Ok(())
 }
@@ -176,18 +202,26 @@ fn changed_seen(place: usize, byte: u8) -> Seen {
 fn each_byte_is_changed(rt: HostRuntime) -> Result<(), Fail> {
     let alloc = rt.alloc();
     for place in 0..96 {
-        for byte in [0, 1, 255] {
+        for byte in &[0, 1, 255] {
             let mut area = AREA;
-            area[place] = byte;
+            area[place] = *byte;
             let mut disk = holding(alloc, &area)?;
-            assert_eq!(rt;
+            sees(
+                &rt,
+                place,
                 look(alloc, &mut disk)?,
-                changed_seen(place, byte),
-                "{place} {byte}"
+                changed_seen(place, *byte),
             );
         }
     }
     Ok(())
+}
+
+// What an append answers whose k-th device call failed.
+fn failed_at(k: u32) -> Result<(), AppendFault>
+    requires { k < 6 }
+{
+    Err(AppendFault { call: k as u8 })
 }
 
 // Both entries fit a trail, and a third one may be appended, at which the disk stops.
@@ -205,22 +239,19 @@ fn stops_at(
     let mut log = Log::create(alloc, &mut disk, 0, 1, 1, 1, &[7])?;
     log.prepare(&mut disk, 2)?;
     let result = log.append(&mut disk, &Bytes::copy_of(alloc, &[1, 1])?);
-    assert!(rt; result.is_ok() == (k == 5));
-    assert!(rt; result.is_ok() || result == Err(AppendFault { call: k as u8 }));
-    assert_eq!(rt;
-        look(alloc, &mut disk.crashed())?,
-        Seen::Made(1, 1, 1, entries)
-    );
+    answer_is(rt, k, result, if k == 5 { Ok(()) } else { failed_at(k) });
+    let left = look(alloc, &mut disk.crashed())?;
+    sees(rt, k as usize, left, Seen::Made(1, 1, 1, entries));
     Ok(())
 }
 
 #[test]
 fn an_append_stops(rt: HostRuntime) -> Result<(), Fail> {
     let alloc = rt.alloc();
-    for choice in [Choice::Keep, Choice::Lose, Choice::Fill(1), Choice::Fill(9)] {
-        stops_at(&rt, alloc, 1, choice, 0)?;
-        stops_at(&rt, alloc, 2, choice, 0)?;
-        stops_at(&rt, alloc, 5, choice, 1)?;
+    for choice in &CHOICES {
+        stops_at(&rt, alloc, 1, *choice, 0)?;
+        stops_at(&rt, alloc, 2, *choice, 0)?;
+        stops_at(&rt, alloc, 5, *choice, 1)?;
     }
     for k in 3..5 {
         stops_at(&rt, alloc, k, Choice::Keep, 1)?;
@@ -231,21 +262,34 @@ fn an_append_stops(rt: HostRuntime) -> Result<(), Fail> {
     Ok(())
 }
 
+// The k-th device call of an append fails: how many entries are read then. After a crash there is none.
+fn fails_at(rt: &impl Abort, alloc: Global, k: u32, entries: usize) -> Result<(), Fail>
+    requires { k < 6 }
+{
+    let mut disk = MemoryDisk::new(alloc);
+    disk.fail_at(6 + k);
+    let mut log = Log::create(alloc, &mut disk, 0, 1, 1, 1, &[])?;
+    log.prepare(&mut disk, 1)?;
+    let result = log.append(&mut disk, &Bytes::copy_of(alloc, &[3])?);
+    answer_is(rt, k, result, failed_at(k));
+    sees(
+        rt,
+        k as usize,
+        look(alloc, &mut disk)?,
+        Seen::Made(1, 1, 0, entries),
+    );
+    let left = look(alloc, &mut disk.crashed())?;
+    sees(rt, k as usize, left, Seen::Made(1, 1, 0, 0));
+    Ok(())
+}
+
 #[test]
 fn an_append_fails(rt: HostRuntime) -> Result<(), Fail> {
     let alloc = rt.alloc();
-    for k in 1..5 {
-        let mut disk = MemoryDisk::new(alloc);
-        disk.fail_at(6 + k);
-        let mut log = Log::create(alloc, &mut disk, 0, 1, 1, 1, &[])?;
-        log.prepare(&mut disk, 1)?;
-        let result = log.append(&mut disk, &Bytes::copy_of(alloc, &[3])?);
-        assert!(rt; result == Err(AppendFault { call: k as u8 }));
-        let entries = usize::from(k == 4);
-        assert_eq!(rt; look(alloc, &mut disk)?, Seen::Made(1, 1, 0, entries));
-        assert_eq!(rt; look(alloc, &mut disk.crashed())?, Seen::Made(1, 1, 0, 0));
-    }
-    Ok(())
+    fails_at(&rt, alloc, 1, 0)?;
+    fails_at(&rt, alloc, 2, 0)?;
+    fails_at(&rt, alloc, 3, 0)?;
+    fails_at(&rt, alloc, 4, 1)
 }
 
 // Making an area of generation 2 over old bytes stops at the k-th device call. It is read so after the crash.
@@ -262,12 +306,16 @@ fn making_stops(
     let mut disk = holding(alloc, old)?;
     disk.stop_at(k, choice);
     let result = Log::create(alloc, &mut disk, 0, 1, 2, 5, &[]);
-    assert!(rt; result.is_err() == disk.stopped());
-    assert_eq!(rt; look(alloc, &mut disk.crashed())?, read, "{k}");
+    holds(
+        rt,
+        "stops where it fails",
+        result.is_err() == disk.stopped(),
+    );
+    sees(rt, k as usize, look(alloc, &mut disk.crashed())?, read);
     Ok(())
 }
 
-const CHOICES: [Choice; 4] = [Choice::Keep, Choice::Lose, Choice::Fill(1), Choice::Fill(9)];
+static CHOICES: [Choice; 4] = [Choice::Keep, Choice::Lose, Choice::Fill(1), Choice::Fill(9)];
 
 const NEW: Seen = Seen::Made(2, 5, 0, 0);
 
@@ -275,10 +323,10 @@ const NEW: Seen = Seen::Made(2, 5, 0, 0);
 fn filling_stops(rt: &impl Abort, alloc: Global, old: &[u8], before: u32) -> Result<(), Fail>
     requires { before < 9 }
 {
-    for choice in CHOICES {
-        making_stops(rt, alloc, old, before + 1, choice, Seen::NotMade)?;
-        making_stops(rt, alloc, old, before + 2, choice, Seen::NotMade)?;
-        making_stops(rt, alloc, old, before + 5, choice, NEW)?;
+    for choice in &CHOICES {
+        making_stops(rt, alloc, old, before + 1, *choice, Seen::NotMade)?;
+        making_stops(rt, alloc, old, before + 2, *choice, Seen::NotMade)?;
+        making_stops(rt, alloc, old, before + 5, *choice, NEW)?;
     }
     for k in 3..5 {
         making_stops(rt, alloc, old, before + k, Choice::Keep, NEW)?;
@@ -292,9 +340,9 @@ fn filling_stops(rt: &impl Abort, alloc: Global, old: &[u8], before: u32) -> Res
 #[test]
 fn an_empty_area_is_closed_and_written(rt: HostRuntime) -> Result<(), Fail> {
     let alloc = rt.alloc();
-    for choice in CHOICES {
-        making_stops(&rt, alloc, &[], 1, choice, Seen::NotMade)?;
-        making_stops(&rt, alloc, &[], 2, choice, Seen::NotMade)?;
+    for choice in &CHOICES {
+        making_stops(&rt, alloc, &[], 1, *choice, Seen::NotMade)?;
+        making_stops(&rt, alloc, &[], 2, *choice, Seen::NotMade)?;
     }
     filling_stops(&rt, alloc, &[], 2)
 }
@@ -304,9 +352,9 @@ fn a_closed_area_is_cut_and_written(rt: HostRuntime) -> Result<(), Fail> {
     let alloc = rt.alloc();
     let mut closed = AREA;
     closed[0] = 2;
-    for choice in CHOICES {
-        making_stops(&rt, alloc, &closed, 1, choice, Seen::NotMade)?;
-        making_stops(&rt, alloc, &closed, 2, choice, Seen::NotMade)?;
+    for choice in &CHOICES {
+        making_stops(&rt, alloc, &closed, 1, *choice, Seen::NotMade)?;
+        making_stops(&rt, alloc, &closed, 2, *choice, Seen::NotMade)?;
     }
     filling_stops(&rt, alloc, &closed, 2)
 }
@@ -321,9 +369,9 @@ fn an_open_area_is_closed_cut_and_written(rt: HostRuntime) -> Result<(), Fail> {
         making_stops(&rt, alloc, &AREA, k, Choice::Fill(1), old)?;
         making_stops(&rt, alloc, &AREA, k, Choice::Fill(9), Seen::NotMade)?;
     }
-    for choice in CHOICES {
-        making_stops(&rt, alloc, &AREA, 3, choice, Seen::NotMade)?;
-        making_stops(&rt, alloc, &AREA, 4, choice, Seen::NotMade)?;
+    for choice in &CHOICES {
+        making_stops(&rt, alloc, &AREA, 3, *choice, Seen::NotMade)?;
+        making_stops(&rt, alloc, &AREA, 4, *choice, Seen::NotMade)?;
     }
     filling_stops(&rt, alloc, &AREA, 4)
 }
