@@ -28,6 +28,8 @@ impl<D: Disk + Drop> DeskAccess for Desk<D> {
 
     ghost fails = { DeskFails D.tells_due D.moment D.due };
 
+    ghost taken = { λ desk. D.taken desk.store.disk };
+
     fn account(&self) -> &Account {
         self.store.state()
     }

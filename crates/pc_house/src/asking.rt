@@ -1,6 +1,6 @@
 //! A request at the desk of a user.
 
-ghost use Rattle.std.specs.Prelude.{◌≡◌, false};
+ghost use Rattle.std.specs.Prelude.{◌≡◌, ◌+◌, ◌^◌, ◌<◌, ◌≤◌, false};
 ghost use Rattle.pc_house.specs.Asking.{AsksDesk, ReachesOnly};
 ghost use Rattle.pc_house.specs.Desk.{DeskFails};
 ghost use Rattle.pc_reply.specs.declared.head.Head.TheVariants as head;
@@ -24,9 +24,12 @@ impl<D: Disk + Drop> Desk<D> {
         ensures asked { AsksDesk D.tells D.faults (reach_of session.old.state request.now) request.now self.old session.old result self.new session.new }
         ensures heard { Heard request.now false result session.old session.new }
 
-        // Where the store wasn't broken, 501 comes only where a device call was to fail.
+        // 501 comes only where a device call was to fail; where a broken store is opened again, unless nearly all was
+        // read that can be counted.
         ensures device { self.old.store.broken ≡ false → result.head ≡ head.DeviceFailed → DeskFails D.tells_due D.moment D.due self.old }
+        ensures device_again { D.taken self.old.store.disk + 2 ^ 31 < 2 ^ 64 → result.head ≡ head.DeviceFailed → DeskFails D.tells_due D.moment D.due self.old }
         ensures ahead { DeskFails D.tells_due D.moment D.due self.new → DeskFails D.tells_due D.moment D.due self.old }
+        ensures taken { D.taken self.new.store.disk ≤ D.taken self.old.store.disk + 2 ^ 31 }
         ensures user { self.new.user ≡ self.old.user }
     {
         match session.reach(request) {

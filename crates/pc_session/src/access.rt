@@ -1,7 +1,8 @@
 //! What a session uses of the desk of a user.
 
-ghost use Rattle.std.specs.Prelude.{◌≡◌, ℕ, ◌≤◌, List, true, false, None, IsTrue, IfSome, MatchOption};
+ghost use Rattle.std.specs.Prelude.{◌≡◌, ℕ, ◌+◌, ◌^◌, ◌<◌, ◌≤◌, List, true, false, None, Err, IsTrue, IfSome, MatchOption};
 ghost use Rattle.pc_base.specs.CommitFault.{OnDevice};
+ghost use Rattle.pc_base.specs.declared.store_fault.StoreFault.TheVariants as store;
 ghost use Rattle.pc_account_holdings.specs.State.{StandsFor};
 ghost use Rattle.pc_account_records.specs.Legal.{accepts};
 ghost use Rattle.pc_account_spelling.specs.EntryForm.{entry_fits};
@@ -46,6 +47,9 @@ pub trait DeskAccess {
     /// Whether a device call of its disk from now on is to fail, where the disk tells which do.
     ghost fails: { Self → Type 0 };
 
+    /// How many bytes its disk has given.
+    ghost taken: { Self → ℕ };
+
     /// The account.
     fn account(&self) -> &Account
         requires { (told self.now).broken ≡ false }
@@ -63,6 +67,7 @@ pub trait DeskAccess {
         ensures commits { Commits entry (told self.old) result (told self.new) }
         ensures device { OnDevice result (fails self.old) }
         ensures ahead { fails self.new → fails self.old }
+        ensures taken { taken self.new ≡ taken self.old }
         ensures faults { (told self.old).faults ≤ (told self.new).faults }
         ensures user { user self.new ≡ user self.old };
 
@@ -71,10 +76,13 @@ pub trait DeskAccess {
         ensures broken { result ≡ (told self.now).broken }
         ensures doubt { (told self.now).broken ≡ false → (told self.now).doubt ≡ None };
 
-    /// Opens the store again.
+    /// Opens the store again. Its disk fails only where a device call was to fail, unless nearly all was read
+    /// that can be counted.
     fn mend(&mut self, alloc: Global) -> Result<(), StoreFault>
         ensures opens { Opens tells (told self.old) result (told self.new) }
+        ensures device { taken self.old + 2 ^ 31 < 2 ^ 64 → result ≡ Err store.Device → fails self.old }
         ensures ahead { fails self.new → fails self.old }
+        ensures taken { taken self.new ≤ taken self.old + 2 ^ 31 }
         ensures faults { (told self.old).faults ≤ (told self.new).faults }
         ensures user { user self.new ≡ user self.old };
 
@@ -95,6 +103,7 @@ pub trait DeskAccess {
     fn take_over(&mut self, client: Name, batch: bool) -> Result<u64, TakeFault>
         ensures takes { Takes client batch (told self.old) result (told self.new) }
         ensures ahead { fails self.new → fails self.old }
+        ensures taken { taken self.new ≡ taken self.old }
         ensures faults { (told self.old).faults ≤ (told self.new).faults }
         ensures user { user self.new ≡ user self.old };
 
@@ -102,6 +111,7 @@ pub trait DeskAccess {
     fn release(&mut self, client: Name, number: u64)
         ensures released { Released client number (told self.old) (told self.new) }
         ensures ahead { fails self.new → fails self.old }
+        ensures taken { taken self.new ≡ taken self.old }
         ensures faults { (told self.old).faults ≤ (told self.new).faults }
         ensures user { user self.new ≡ user self.old };
 }

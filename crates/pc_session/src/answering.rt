@@ -60,6 +60,7 @@ pub(crate) fn answer<K: DeskAccess>(
     ensures comes { Comes user.now (answer_of (K.told desk.old) state.now request.now) (K.told desk.old) state.now receipts.old result (K.told desk.new) receipts.new }
     ensures device { OnDevice result (K.fails desk.old) }
     ensures ahead { K.fails desk.new → K.fails desk.old }
+    ensures taken { K.taken desk.new ≡ K.taken desk.old }
     ensures faults { (K.told desk.old).faults ≤ (K.told desk.new).faults }
     ensures user { K.user desk.new ≡ K.user desk.old }
 {
@@ -82,6 +83,7 @@ fn carry_out<K: DeskAccess>(
     ensures comes { Comes user.now (outcome_of (K.told desk.old) state.now task) (K.told desk.old) state.now receipts.old result (K.told desk.new) receipts.new }
     ensures device { OnDevice result (K.fails desk.old) }
     ensures ahead { K.fails desk.new → K.fails desk.old }
+    ensures taken { K.taken desk.new ≡ K.taken desk.old }
     ensures faults { (K.told desk.old).faults ≤ (K.told desk.new).faults }
     ensures user { K.user desk.new ≡ K.user desk.old }
 {

@@ -1,9 +1,9 @@
 //! A request at the desk: what is told of the outcome, and what the session keeps.
 
-ghost use Rattle.std.specs.Prelude.{◌≡◌, ◌≤◌, false, None, Some, IfOk, MatchOption};
+ghost use Rattle.std.specs.Prelude.{◌≡◌, ◌+◌, ◌^◌, ◌<◌, ◌≤◌, false, None, Some, IfOk, MatchOption};
 ghost use Rattle.pc_reply.specs.declared.head.Head.TheVariants as head;
 ghost use Rattle.pc_request.specs.Request.{IsWritable};
-ghost use Rattle.pc_session.specs.Answering.{Concludes, OpensOr, SeesPass, head_of_failure};
+ghost use Rattle.pc_session.specs.Answering.{Concludes, OnDevice, OpensOr, SeesPass, head_of_failure};
 ghost use Rattle.pc_session.specs.Receipts.{is_account_of as is_account, missing, missing_in, number_of_pass, pass_of};
 ghost use Rattle.pc_session.specs.Repository.{plain};
 ghost use Rattle.pc_session.specs.States.{reach_of, stale as staled, superseded};
@@ -59,7 +59,9 @@ fn superseded<K: DeskAccess>(desk: &K, who: &Who) -> Option<Refusal>
 /// the store any more.
 pub(crate) fn open<K: DeskAccess>(alloc: Global, desk: &mut K, number: u64) -> Result<(), Failure>
     ensures opens { OpensOr K.tells number (K.told desk.old) result (K.told desk.new) }
+    ensures device { K.taken desk.old + 2 ^ 31 < 2 ^ 64 → OnDevice result (K.fails desk.old) }
     ensures ahead { K.fails desk.new → K.fails desk.old }
+    ensures taken { K.taken desk.new ≤ K.taken desk.old + 2 ^ 31 }
     ensures faults { (K.told desk.old).faults ≤ (K.told desk.new).faults }
     ensures user { K.user desk.new ≡ K.user desk.old }
 {
@@ -151,6 +153,7 @@ impl Session {
         ensures heard { Heard request.now false result self.old self.new }
         ensures device { result.head ≡ head.DeviceFailed → K.fails desk.old }
         ensures ahead { K.fails desk.new → K.fails desk.old }
+        ensures taken { K.taken desk.new ≡ K.taken desk.old }
         ensures faults { (K.told desk.old).faults ≤ (K.told desk.new).faults }
         ensures user { K.user desk.new ≡ K.user desk.old }
     {

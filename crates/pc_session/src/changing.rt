@@ -37,6 +37,7 @@ pub(crate) fn change<K: DeskAccess>(
     ensures comes { Comes user.now (changes (K.told desk.old) state.now wish.now) (K.told desk.old) state.now receipts.old result (K.told desk.new) receipts.new }
     ensures device { OnDevice result (K.fails desk.old) }
     ensures ahead { K.fails desk.new → K.fails desk.old }
+    ensures taken { K.taken desk.new ≡ K.taken desk.old }
     ensures faults { (K.told desk.old).faults ≤ (K.told desk.new).faults }
     ensures user { K.user desk.new ≡ K.user desk.old }
 {
@@ -61,6 +62,7 @@ pub(crate) fn take_away<K: DeskAccess>(
     ensures comes { Comes user.now (takes_away (K.told desk.old) state.now client.now) (K.told desk.old) state.now receipts.old result (K.told desk.new) receipts.new }
     ensures device { OnDevice result (K.fails desk.old) }
     ensures ahead { K.fails desk.new → K.fails desk.old }
+    ensures taken { K.taken desk.new ≡ K.taken desk.old }
     ensures faults { (K.told desk.old).faults ≤ (K.told desk.new).faults }
     ensures user { K.user desk.new ≡ K.user desk.old }
 {
@@ -90,6 +92,7 @@ pub(crate) fn set_password<K: DeskAccess>(
     ensures comes { Comes user.now (as_user state.now (λ owner. sets_password (K.told desk.old) state.now owner present.now next.now)) (K.told desk.old) state.now receipts.old result (K.told desk.new) receipts.new }
     ensures device { OnDevice result (K.fails desk.old) }
     ensures ahead { K.fails desk.new → K.fails desk.old }
+    ensures taken { K.taken desk.new ≡ K.taken desk.old }
     ensures faults { (K.told desk.old).faults ≤ (K.told desk.new).faults }
     ensures user { K.user desk.new ≡ K.user desk.old }
 {
@@ -120,6 +123,7 @@ pub(crate) fn make<K: DeskAccess>(
     ensures makes { Makes user.now entry (K.told desk.old) receipts.old result (K.told desk.new) receipts.new }
     ensures device { OnDevice result (K.fails desk.old) }
     ensures ahead { K.fails desk.new → K.fails desk.old }
+    ensures taken { K.taken desk.new ≡ K.taken desk.old }
     ensures faults { (K.told desk.old).faults ≤ (K.told desk.new).faults }
     ensures user { K.user desk.new ≡ K.user desk.old }
 {

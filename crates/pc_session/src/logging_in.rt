@@ -55,6 +55,7 @@ pub(crate) fn log_in<K: DeskAccess>(
     ensures comes { Comes user.now (logs_in_knowing (K.told desk.old) state.now login.now.user login.now.password login.now.client login.now.create login.now.batch) (K.told desk.old) state.now receipts.old result (K.told desk.new) receipts.new }
     ensures device { OnDevice result (K.fails desk.old) }
     ensures ahead { K.fails desk.new → K.fails desk.old }
+    ensures taken { K.taken desk.new ≡ K.taken desk.old }
     ensures faults { (K.told desk.old).faults ≤ (K.told desk.new).faults }
     ensures user { K.user desk.new ≡ K.user desk.old }
 {
@@ -83,6 +84,7 @@ fn enter<K: DeskAccess>(
     ensures comes { (user : List ℕ) (s : SessionState) (receipts : List Receipt) → Comes user (unless_drawn (K.told desk.old) s (enters (K.told desk.old) login.now.user login.now.client login.now.batch birth None)) (K.told desk.old) s receipts result (K.told desk.new) receipts }
     ensures device { OnDevice result (K.fails desk.old) }
     ensures ahead { K.fails desk.new → K.fails desk.old }
+    ensures taken { K.taken desk.new ≡ K.taken desk.old }
     ensures faults { (K.told desk.old).faults ≤ (K.told desk.new).faults }
     ensures user { K.user desk.new ≡ K.user desk.old }
 {
@@ -106,6 +108,7 @@ fn entered(alloc: Global, login: &Login, birth: u64, number: u64) -> Answered
 fn draw<K: DeskAccess>(desk: &mut K, login: &Login) -> Result<u64, Failure>
     ensures draws { Draws login.now.client login.now.batch (K.told desk.old) result (K.told desk.new) }
     ensures ahead { K.fails desk.new → K.fails desk.old }
+    ensures taken { K.taken desk.new ≡ K.taken desk.old }
     ensures faults { (K.told desk.old).faults ≤ (K.told desk.new).faults }
     ensures user { K.user desk.new ≡ K.user desk.old }
 {
@@ -134,6 +137,7 @@ fn make_client<K: DeskAccess>(
     ensures comes { Comes user.now (unless_drawn (K.told desk.old) state.now (makes_client (K.told desk.old) state.now login.now.user login.now.client login.now.batch (planned (known (K.told desk.old).history) (wish.MakeClient login.now.client)))) (K.told desk.old) state.now receipts.old result (K.told desk.new) receipts.new }
     ensures device { OnDevice result (K.fails desk.old) }
     ensures ahead { K.fails desk.new → K.fails desk.old }
+    ensures taken { K.taken desk.new ≡ K.taken desk.old }
     ensures faults { (K.told desk.old).faults ≤ (K.told desk.new).faults }
     ensures user { K.user desk.new ≡ K.user desk.old }
 {

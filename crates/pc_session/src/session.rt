@@ -1,6 +1,6 @@
 //! A session: what it answers, and what it keeps.
 
-ghost use Rattle.std.specs.Prelude.{◌≡◌, ◌≤◌, false, None, Some, [], MatchOption};
+ghost use Rattle.std.specs.Prelude.{◌≡◌, ◌+◌, ◌^◌, ◌<◌, ◌≤◌, false, None, Some, [], MatchOption};
 ghost use Rattle.pc_base.specs.declared.refusal.Refusal.TheVariants.{BadUserOrPassword};
 ghost use Rattle.pc_reply.specs.declared.head.Head.TheVariants as head;
 ghost use Rattle.pc_request.specs.Request.{IsWritable};
@@ -124,9 +124,12 @@ impl Session {
         ensures turn { Turn K.tells (K.user desk.old) request.now (K.told desk.old) self.old result (K.told desk.new) self.new }
         ensures heard { Heard request.now false result self.old self.new }
 
-        // Where the store wasn't broken, 501 comes only where a device call was to fail.
+        // 501 comes only where a device call was to fail; where a broken store is opened again, unless nearly all was
+        // read that can be counted.
         ensures device { (K.told desk.old).broken ≡ false → result.head ≡ head.DeviceFailed → K.fails desk.old }
+        ensures device_again { K.taken desk.old + 2 ^ 31 < 2 ^ 64 → result.head ≡ head.DeviceFailed → K.fails desk.old }
         ensures ahead { K.fails desk.new → K.fails desk.old }
+        ensures taken { K.taken desk.new ≤ K.taken desk.old + 2 ^ 31 }
         ensures faults { (K.told desk.old).faults ≤ (K.told desk.new).faults }
         ensures user { K.user desk.new ≡ K.user desk.old }
     {
@@ -148,6 +151,7 @@ impl Session {
         ensures ends { EndsAt self.old.state.who (K.told desk.old) (K.told desk.new) }
         ensures same { self.new ≡ self.old }
         ensures ahead { K.fails desk.new → K.fails desk.old }
+        ensures taken { K.taken desk.new ≡ K.taken desk.old }
         ensures faults { (K.told desk.old).faults ≤ (K.told desk.new).faults }
         ensures user { K.user desk.new ≡ K.user desk.old }
     {
