@@ -35,10 +35,13 @@ abbrev pub room_of : {M D E : Type 0} → Ghosts M E → StoreState M D E → Ro
 room_of machine store = record { entries = min (65536 - length store.trail) (2 ^ 63 - next_number store); bytes = 16777216 - trail_bytes machine store.trail }
 
 -- the images hold the history, or the history with the entry in doubt, or the head in doubt
-pub data OpensInDoubt {M D E : Type 0} (machine : Ghosts M E) (store : StoreState M D E) (images : Images) : Type 0 where
-  as_it_was : OpensIn machine store.area store.head store.trail images → OpensInDoubt machine store images
-  with_entry : (entry : E) → store.doubt ≡ Some entry → OpensIn machine store.area store.head (store.trail ++ entry ∷ []) images → OpensInDoubt machine store images
-  renewed : (head : Head) → store.renewal ≡ Some head → OpensIn machine (1 - store.area) head [] images → OpensInDoubt machine store images
+pub data MayOpen {M E : Type 0} (machine : Ghosts M E) (area : ℕ) (head : Head) (trail : List E) (doubt : Option E) (renewal : Option Head) (images : Images) : Type 0 where
+  as_it_was : OpensIn machine area head trail images → MayOpen machine area head trail doubt renewal images
+  with_entry : (entry : E) → doubt ≡ Some entry → OpensIn machine area head (trail ++ entry ∷ []) images → MayOpen machine area head trail doubt renewal images
+  renewed : (other : Head) → renewal ≡ Some other → OpensIn machine (1 - area) other [] images → MayOpen machine area head trail doubt renewal images
+
+abbrev pub OpensInDoubt : {M D E : Type 0} → Ghosts M E → StoreState M D E → Images → Type 0
+OpensInDoubt machine store images = MayOpen machine store.area store.head store.trail store.doubt store.renewal images
 
 -- the history is acknowledged: a crash leaves what is read, and that holds it
 pub record Acknowledges {M D E : Type 0} (machine : Ghosts M E) (seen : D → Images) (may_leave : D → Images → Type 0) (store : StoreState M D E) : Type 0 where

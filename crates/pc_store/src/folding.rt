@@ -73,38 +73,39 @@ impl<M: Machine, D: Disk + Drop> Store<M, D> {
         if self.generation == LAST_GENERATION {
             return Err(CommitFault::Full);
         }
+        let kind = M::KIND;
         let generation = self.generation + 1;
         let area = 1 - self.log.area();
         let made = Log::create(
             alloc,
             &mut self.disk,
             area,
-            M::KIND,
+            kind,
             generation,
             first,
             base.as_slice(),
         );
-        match made {
-            Ok(log) => {
-                self.log = log;
-                self.generation = generation;
-                self.first = first;
-                self.base = base;
-                self.trail = Vec::new(alloc);
-                self.bytes = 0;
-                Ok(())
-            }
-            Err(LogFault::Memory) => Err(CommitFault::Memory),
-            Err(_) => {
+        let log = match made {
+            Ok(log) => log,
+            Err(LogFault::Device) => {
                 self.is_broken = true;
                 self.renewal = Some(Renewal {
-                    kind: M::KIND,
+                    kind,
                     generation,
                     first,
                     base,
                 });
-                Err(CommitFault::Device)
+                return Err(CommitFault::Device);
             }
-        }
+            Err(LogFault::Malformed { place: _ }) => unreachable!(),
+            Err(LogFault::Memory) => return Err(CommitFault::Memory),
+        };
+        self.log = log;
+        self.generation = generation;
+        self.first = first;
+        self.base = base;
+        self.trail = Vec::new(alloc);
+        self.bytes = 0;
+        Ok(())
     }
 }
