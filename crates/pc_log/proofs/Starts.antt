@@ -7,7 +7,7 @@ use Rattle.pc_log.specs.declared.fault.LogFault.TheVariants.{Device, Malformed, 
 use Rattle.pc_log.specs.Area.{Head, IsHead, head_bytes, is_made}
 use Rattle.pc_log.specs.Numbers.{SpellsNumbers}
 use Rattle.pc_log.specs.Reading.{◌>>=◌, bytes_at, numbers_of, head_of, Reached, opened, entry_at, next_of}
-use Rattle.pc_log.specs.Opening.{BeginsWith, Parses, Gives, Starts, bytes_of_next}
+use Rattle.pc_log.specs.Opening.{BeginsWith, Parses, Peeks, Gives, Starts, bytes_of_next}
 use Rattle.pc_log.proofs.Heads.{bind_is, head_takes}
 
 -- what a read gave is what stands there, as far as there is room for it
@@ -52,6 +52,11 @@ numbers_fault Device kind area rest are e = absurd e
 numbers_fault (Malformed place) kind area rest are e =
     (are.made, ap (λ (r : Result Numbers ℕ). r >>= λ n. bytes_at 30 n.size area >>= λ base. made_of kind n base) (ap (numbers_of kind) (sym are.behind) ∙ e))
 numbers_fault Memory kind area rest are e = absurd e
+
+pub peek_fault : (fault : LogFault) (kind : ℕ) (area rest : List ℕ) → AreRead kind area rest → Parses {X = Numbers} {Y = Numbers} (λ n. n) (Err fault) (numbers_of kind rest) → Peeks (Err fault) kind area
+peek_fault Device kind area rest are e = absurd e
+peek_fault (Malformed place) kind area rest are e = (are.made, ap (numbers_of kind) (sym are.behind) ∙ e)
+peek_fault Memory kind area rest are e = absurd e
 
 pub base_fault : (fault : LogFault) (kind : ℕ) (area rest : List ℕ) (n : Numbers) → AreRead kind area rest → numbers_of kind rest ≡ Ok n → Gives {X = List ℕ} {Y = List ℕ} (λ bytes. bytes) (Err fault) (bytes_at 30 n.size area) → Starts (Err fault) kind area
 unfolding head_of

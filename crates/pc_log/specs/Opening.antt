@@ -1,6 +1,7 @@
 -- What opening answers.
-use Rattle.std.specs.Prelude.{◌≡◌, ◌⊎◌, ℕ, ◌+◌, List, [], ◌∷◌, ◌++◌, length, drop, true, false, Option, None, Some, Result, Ok, Err}
+use Rattle.std.specs.Prelude.{◌≡◌, ◌⊎◌, ℕ, ◌+◌, List, [], ◌∷◌, ◌++◌, length, drop, take, true, false, Option, None, Some, Result, Ok, Err}
 use Rattle.pc_log.specs.declared.fault.LogFault.{LogFault}
+use Rattle.pc_log.specs.declared.head.Numbers.{Numbers}
 use Rattle.pc_log.specs.declared.found.PlacedEntry.{PlacedEntry}
 use Rattle.pc_log.specs.declared.found.Start.{Start}
 use Rattle.pc_log.specs.declared.found.Start.TheVariants.{NotMade, Made}
@@ -10,7 +11,7 @@ use Rattle.pc_log.specs.declared.fault.LogFault.TheVariants.{Device, Malformed, 
 use Rattle.pc_log.specs.Area.{Head, IsEntry, IsHead, IsTrail, Spelled, entry_bytes, front, is_made}
 use Rattle.std.specs.List.{flat_map}
 use Rattle.pc_log.specs.Logs.{LogState}
-use Rattle.pc_log.specs.Reading.{Reached, OpeningState, behind, behind_head, has_room, head_of, next_of}
+use Rattle.pc_log.specs.Reading.{Reached, OpeningState, behind, behind_head, has_room, head_of, next_of, numbers_of}
 
 -- what reading without a disk answers: it gives no other fault
 abbrev pub Parses : {X Y : Type 0} → (X → Y) → Result X LogFault → Result Y ℕ → Type 0
@@ -59,6 +60,14 @@ Starts (Ok (Made opening generation first base)) kind area = (is_made area ≡ t
 Starts (Err Device) kind area = Unit {0}
 Starts (Err (Malformed place)) kind area = (is_made area ≡ true) × (head_of kind area ≡ Err place)
 Starts (Err Memory) kind area = Unit {0}
+
+-- the numbers of an area's head, or that it isn't made, or the first fault of them
+abbrev pub Peeks : Result (Option Numbers) LogFault → ℕ → List ℕ → Type 0
+Peeks (Ok None) kind area = is_made area ≡ false
+Peeks (Ok (Some numbers)) kind area = (is_made area ≡ true) × (numbers_of kind (take 29 (drop 1 area)) ≡ Ok numbers)
+Peeks (Err Device) kind area = Unit {0}
+Peeks (Err (Malformed place)) kind area = (is_made area ≡ true) × (numbers_of kind (take 29 (drop 1 area)) ≡ Err place)
+Peeks (Err Memory) kind area = ⊥
 
 -- the area is made: how far it was read then, and the parts of its head
 abbrev pub IfMade : Result Start LogFault → (OpeningState → ℕ → ℕ → List ℕ → Type 0) → Type 0

@@ -22,8 +22,8 @@ const MOST_BASE: u32 = 1_073_741_824;
 
 /// The numbers of a head: its generation, the number of the first entry after the base, and how many
 /// bytes the base has.
-#[derive(Clone, Copy)]
-pub(crate) struct Numbers {
+#[derive(Clone, Copy, Debug, PartialEq, Eq)]
+pub struct Numbers {
     pub generation: u64,
     pub first: u64,
     pub size: u32,

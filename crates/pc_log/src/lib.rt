@@ -10,8 +10,9 @@ mod opening;
 
 pub use fault::{AppendFault, LogFault};
 pub use found::{Found, PlacedEntry, Start};
+pub use head::Numbers;
 pub use log::Log;
-pub use opening::Opening;
+pub use opening::{Opening, peek};
 
 #[cfg(test)]
 mod tests;

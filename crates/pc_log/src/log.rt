@@ -120,6 +120,14 @@ impl Log {
         Log::read_log(alloc, disk, area, kind)
     }
 
+    /// The area.
+    pub fn area(&self) -> u8
+        ensures area { result ≡ self.now.area }
+        ensures within { result < 2 }
+    {
+        self.area
+    }
+
     /// Makes room on the disk for an entry of this many bytes. Nothing else changes, whatever it answers.
     pub fn prepare<D: Disk>(&self, disk: &mut D, length: u32) -> Result<(), Memory>
         ensures stands { D.tells → (head : Head) (entries : List (List ℕ)) → Stands self.now head entries (D.seen disk.old) (D.may_leave disk.old) → Stands self.now head entries (D.seen disk.new) (D.may_leave disk.new) }

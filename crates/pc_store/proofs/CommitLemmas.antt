@@ -11,8 +11,10 @@ use Rattle.pc_disk.specs.StepFaults.{LeadsOn}
 use Rattle.pc_disk.proofs.Runs.{started, stays, followed, weakened, first_weakened}
 use Rattle.pc_log.specs.Area.{Head, IsEntry, IsHead, IsTrail, Spelled, bytes_of}
 use Rattle.pc_log.specs.Logs.{LogState, Stands, Without, WithOrWithout, stands-still}
-use Rattle.pc_store.specs.History.{AreAllowed, IsHistory, IsReplay, Opens, StandsFor, after, written_of}
+use Rattle.pc_store.specs.History.{AreAllowed, IsHistory, IsReplay, StandsFor, after, written_of}
+use Rattle.pc_store.specs.Current.{IsOlder, OpensIn}
 use Rattle.pc_store.specs.Store.{Acknowledges, IsSound, OpensInDoubt, StoreState, next_number, trail_bytes}
+use Rattle.pc_store.specs.Store.MayOpen.{as_it_was, with_entry, renewed}
 use Rattle.pc_store.specs.Commit.{CommitLeaves, StandsWithOrWithout, StandsWithout, doubt_after, is_full}
 use Rattle.pc_store.proofs.EntriesLemmas.{within}
 use Rattle.pc_store.proofs.HistoryLemmas.{after-push, AreAllowed-push, written_of-push, all-push, bytes_of-push}
@@ -161,36 +163,39 @@ stands_with : {M E : Type 0} (machine : Ghosts M E) (head : Head) (trail : List 
 stands_with machine head trail state entry area follow spelled =
     opens_whole machine head trail state entry area follow (subst (λ (es : List (List ℕ)). Spelled head es area) (sym (written_of-push machine trail entry)) spelled)
 
-pub leads_without : {M E : Type 0} (machine : Ghosts M E) (head : Head) (trail : List E) (state : M) (entry : E) (area : ℕ) (may may' : Images → Type 0) → MayFollow machine head trail state entry → area ≡ 0 → Keeps may may'
-    → (left : Images) → LeadsOn (InArea area (Without head (written_of machine trail))) may' left → LeadsOn (InArea 0 (StandsWithout machine head trail)) may left
-leads_without machine head trail state entry area may may' follow first keeps left leads =
+pub leads_without : {M E : Type 0} (machine : Ghosts M E) (head : Head) (trail : List E) (state : M) (entry : E) (area index : ℕ) (may may' : Images → Type 0) → MayFollow machine head trail state entry → area ≡ index → Keeps may may'
+    → (left : Images) → LeadsOn (InArea area (Without head (written_of machine trail))) may' left → LeadsOn (InArea index (StandsWithout machine head trail)) may left
+leads_without machine head trail state entry area index may may' follow first keeps left leads =
     let step = subst (λ (a : ℕ). InArea a (Without head (written_of machine trail)) leads.0 left) first leads.2 in
-    (leads.0, keeps leads.0 leads.1, record { here = stands_without machine head trail state entry (area_of 0 left) follow step.here; there = step.there })
+    (leads.0, keeps leads.0 leads.1, record { here = stands_without machine head trail state entry (area_of index left) follow step.here; there = step.there })
 
-pub leads_either : {M E : Type 0} (machine : Ghosts M E) (head : Head) (trail : List E) (state : M) (entry : E) (area : ℕ) (bytes : List ℕ) (may may' : Images → Type 0) → MayFollow machine head trail state entry → area ≡ 0 → bytes ≡ machine.written entry → Keeps may may'
-    → (left : Images) → LeadsOn (InArea area (WithOrWithout head (written_of machine trail) bytes)) may' left → LeadsOn (InArea 0 (StandsWithOrWithout machine head trail entry)) may left
-leads_either machine head trail state entry area bytes may may' follow first is keeps left leads =
+pub leads_either : {M E : Type 0} (machine : Ghosts M E) (head : Head) (trail : List E) (state : M) (entry : E) (area index : ℕ) (bytes : List ℕ) (may may' : Images → Type 0) → MayFollow machine head trail state entry → area ≡ index → bytes ≡ machine.written entry → Keeps may may'
+    → (left : Images) → LeadsOn (InArea area (WithOrWithout head (written_of machine trail) bytes)) may' left → LeadsOn (InArea index (StandsWithOrWithout machine head trail entry)) may left
+leads_either machine head trail state entry area index bytes may may' follow first is keeps left leads =
     let step = subst (λ (a : ℕ). InArea a (WithOrWithout head (written_of machine trail) bytes) leads.0 left) first leads.2 in
-    let here = ⊎_elim (λ without. inl (stands_without machine head trail state entry (area_of 0 left) follow without))
-    (λ whole. inr (stands_with machine head trail state entry (area_of 0 left) follow (subst (λ (b : List ℕ). Spelled head (written_of machine trail ++ b ∷ []) (area_of 0 left)) is whole))) step.here in
+    let here = ⊎_elim (λ without. inl (stands_without machine head trail state entry (area_of index left) follow without))
+    (λ whole. inr (stands_with machine head trail state entry (area_of index left) follow (subst (λ (b : List ℕ). Spelled head (written_of machine trail ++ b ∷ []) (area_of index left)) is whole))) step.here in
     (leads.0, keeps leads.0 leads.1, record { here = here; there = step.there })
 
--- with no entry in doubt a crash leaves the history
-pub opens_undoubted : {M E : Type 0} (machine : Ghosts M E) (head : Head) (trail : List E) (doubt : Option E) (left : Images) → doubt ≡ None → OpensInDoubt machine head trail doubt left → Opens machine head trail left
-opens_undoubted machine head trail doubt left none opens =
-    let here = subst (λ (d : Option _). OpensInDoubt machine head trail d left) none opens in
-    ⊎_elim (λ is. is) (λ never. absurd never) here
+nothing_is_some : {X : Type 0} (x : X) → (let nothing : Option X = None in nothing) ≡ Some x → ⊥
+nothing_is_some x e = cc
+
+-- with nothing in doubt a crash leaves the history
+pub opens_undoubted : {M D E : Type 0} (machine : Ghosts M E) (store : StoreState M D E) (left : Images) → store.doubt ≡ None → store.renewal ≡ None → OpensInDoubt machine store left → OpensIn machine store.area store.head store.trail left
+opens_undoubted machine store left none no_head (as_it_was opens) = opens
+opens_undoubted machine store left none no_head (with_entry entry doubted opens) = absurd (nothing_is_some entry (sym none ∙ doubted))
+opens_undoubted machine store left none no_head (renewed head doubted opens) = absurd (nothing_is_some head (sym no_head ∙ doubted))
 
 -- before the first call a crash leaves the history
 pub rests_without : {M D E : Type 0} (machine : Ghosts M E) (tells : Type 0) (seen : D → Images) (may_leave : D → Images → Type 0) (store : StoreState M D E) (log : LogState) (bytes : ℕ)
-    → IsSound machine tells seen may_leave store log bytes → store.broken ≡ false → tells → (left : Images) → may_leave store.disk left → LeadsOn (InArea 0 (StandsWithout machine store.head store.trail)) (may_leave store.disk) left
+    → IsSound machine tells seen may_leave store log bytes → store.broken ≡ false → tells → (left : Images) → may_leave store.disk left → LeadsOn (InArea store.area (StandsWithout machine store.head store.trail)) (may_leave store.disk) left
 rests_without machine tells seen may_leave store log bytes sound whole told left may =
-    (left, may, record { here = opens_undoubted machine store.head store.trail store.doubt left (sound.no_doubt whole) (sound.leaves told left may); there = refl })
+    (left, may, record { here = (opens_undoubted machine store left (sound.no_doubt whole) (sound.no_renewal whole) (sound.leaves told left may)).stands; there = refl })
 
 pub rests_either : {M D E : Type 0} (machine : Ghosts M E) (tells : Type 0) (seen : D → Images) (may_leave : D → Images → Type 0) (store : StoreState M D E) (log : LogState) (bytes : ℕ) (entry : E)
-    → IsSound machine tells seen may_leave store log bytes → store.broken ≡ false → tells → (left : Images) → may_leave store.disk left → LeadsOn (InArea 0 (StandsWithOrWithout machine store.head store.trail entry)) (may_leave store.disk) left
+    → IsSound machine tells seen may_leave store log bytes → store.broken ≡ false → tells → (left : Images) → may_leave store.disk left → LeadsOn (InArea store.area (StandsWithOrWithout machine store.head store.trail entry)) (may_leave store.disk) left
 rests_either machine tells seen may_leave store log bytes entry sound whole told left may =
-    (left, may, record { here = inl (opens_undoubted machine store.head store.trail store.doubt left (sound.no_doubt whole) (sound.leaves told left may)); there = refl })
+    (left, may, record { here = inl (opens_undoubted machine store left (sound.no_doubt whole) (sound.no_renewal whole) (sound.leaves told left may)).stands; there = refl })
 
 -- a run of no device call
 pub rested : {D : Type 0} (moment : D → ℕ) (left_since : D → ℕ → Images → Type 0) (may_leave : D → Images → Type 0) (seen seen' : Images) (old new : D) (P : Images → Type 0)
@@ -199,14 +204,17 @@ pub rested : {D : Type 0} (moment : D → ℕ) (left_since : D → ℕ → Image
 rested moment left_since may_leave seen seen' old new P only_now still same here =
     stays moment left_since old old new P (started moment left_since old P (λ left since. here left (only_now left since))) same (λ earlier left since. still.nothing_else earlier left since)
 
+-- an image after a step in the store's area, beside the area that doesn't count
+pub opens_after : {M E : Type 0} (machine : Ghosts M E) (index : ℕ) (head : Head) (trail : List E) (seen left : Images) → index < 2 → IsOlder machine.KIND head.generation (other_of index seen) → other_of index left ≡ other_of index seen → StandsFor machine head trail (area_of index left) → OpensIn machine index head trail left
+opens_after machine index head trail seen left within older there stands = record { within = within; stands = stands; older = subst (λ (xs : List ℕ). IsOlder machine.KIND head.generation xs) (sym there) older }
+
 -- an entry that may have come is in doubt
-pub doubt_leaves : {M E : Type 0} (machine : Ghosts M E) (head : Head) (trail : List E) (entry : E) (calls : ℕ) (left : Images)
-    → (calls ≤ 2 → Opens machine head trail left) → (Opens machine head trail left ⊎ Opens machine head (trail ++ entry ∷ []) left) → OpensInDoubt machine head trail (doubt_after entry calls) left
-doubt_leaves {E = E} machine head trail entry calls left early either =
-    let P : Option E → Type 0 = λ d. OpensInDoubt machine head trail d left in
+pub doubt_leaves : {M D E : Type 0} (machine : Ghosts M E) (store : StoreState M D E) (entry : E) (calls : ℕ) (left : Images) → store.doubt ≡ doubt_after entry calls
+    → (calls ≤ 2 → OpensIn machine store.area store.head store.trail left) → (OpensIn machine store.area store.head store.trail left ⊎ OpensIn machine store.area store.head (store.trail ++ entry ∷ []) left) → OpensInDoubt machine store left
+doubt_leaves {E = E} machine store entry calls left is early either =
     let some : Option E = Some entry in
-    ⊎_elim (λ low. subst P (sym (cond-false _ some None (lt-leb 3 calls low))) (inl (early (omega arith))))
-    (λ high. subst P (sym (cond-true _ some None (le-leb 3 calls high))) either) (cases_lt calls 3)
+    ⊎_elim (λ low. as_it_was (early (omega arith)))
+    (λ high. ⊎_elim (λ without. as_it_was without) (λ whole. with_entry entry (is ∙ cond-true _ some None (le-leb 3 calls high)) whole) either) (cases_lt calls 3)
 
 -- the run of a commit from before its room was made, with the entry or without it
 pub run_either : {M D E : Type 0} (machine : Ghosts M E) (tells : Type 0) (seen : D → Images) (may_leave : D → Images → Type 0) (moment : D → ℕ) (left_since : D → ℕ → Images → Type 0) (store : StoreState M D E) (log : LogState) (bytes : ℕ) (mid new : D) (entry : E) (written : List ℕ)
@@ -214,12 +222,12 @@ pub run_either : {M D E : Type 0} (machine : Ghosts M E) (tells : Type 0) (seen 
     → ((left : Images) → left_since store.disk (moment store.disk) left → may_leave store.disk left)
     → IsStill (seen store.disk) (seen mid) (may_leave store.disk) (may_leave mid) (left_since store.disk) (left_since mid) → moment mid ≡ moment store.disk
     → LeavesOnly moment left_since mid new (LeadsOn (InArea log.area (WithOrWithout store.head (written_of machine store.trail) written)) (may_leave mid))
-    → LeavesOnly moment left_since store.disk new (LeadsOn (InArea 0 (StandsWithOrWithout machine store.head store.trail entry)) (may_leave store.disk))
+    → LeavesOnly moment left_since store.disk new (LeadsOn (InArea store.area (StandsWithOrWithout machine store.head store.trail entry)) (may_leave store.disk))
 run_either machine tells seen may_leave moment left_since store log bytes mid new entry written sound whole follow is told only_now still same run =
-    let P : Images → Type 0 = LeadsOn (InArea 0 (StandsWithOrWithout machine store.head store.trail entry)) (may_leave store.disk) in
+    let P : Images → Type 0 = LeadsOn (InArea store.area (StandsWithOrWithout machine store.head store.trail entry)) (may_leave store.disk) in
     let Q : Images → Type 0 = LeadsOn (InArea log.area (WithOrWithout store.head (written_of machine store.trail) written)) (may_leave mid) in
     let begun = rested moment left_since may_leave (seen store.disk) (seen mid) store.disk mid P only_now still same (rests_either machine tells seen may_leave store log bytes entry sound whole told) in
-    let ended = weakened moment left_since mid new Q P (leads_either machine store.head store.trail store.state entry log.area written (may_leave store.disk) (may_leave mid) follow sound.in_area is still.leaves) run in
+    let ended = weakened moment left_since mid new Q P (leads_either machine store.head store.trail store.state entry log.area store.area written (may_leave store.disk) (may_leave mid) follow sound.in_area is still.leaves) run in
     followed moment left_since store.disk mid new P begun ended
 
 -- and up to its second call without it
@@ -228,23 +236,23 @@ pub run_first : {M D E : Type 0} (machine : Ghosts M E) (tells : Type 0) (seen :
     → ((left : Images) → left_since store.disk (moment store.disk) left → may_leave store.disk left)
     → IsStill (seen store.disk) (seen mid) (may_leave store.disk) (may_leave mid) (left_since store.disk) (left_since mid) → moment mid ≡ moment store.disk
     → LeavesFirst moment left_since 2 mid new (LeadsOn (InArea log.area (Without store.head (written_of machine store.trail))) (may_leave mid)) (LeadsOn (InArea log.area (WithOrWithout store.head (written_of machine store.trail) written)) (may_leave mid))
-    → LeavesFirst moment left_since 2 store.disk new (LeadsOn (InArea 0 (StandsWithout machine store.head store.trail)) (may_leave store.disk)) (LeadsOn (InArea 0 (StandsWithOrWithout machine store.head store.trail entry)) (may_leave store.disk))
+    → LeavesFirst moment left_since 2 store.disk new (LeadsOn (InArea store.area (StandsWithout machine store.head store.trail)) (may_leave store.disk)) (LeadsOn (InArea store.area (StandsWithOrWithout machine store.head store.trail entry)) (may_leave store.disk))
 run_first machine tells seen may_leave moment left_since store log bytes mid new entry written sound whole follow is told only_now still same run =
-    let without : Images → Type 0 = LeadsOn (InArea 0 (StandsWithout machine store.head store.trail)) (may_leave store.disk) in
-    let either : Images → Type 0 = LeadsOn (InArea 0 (StandsWithOrWithout machine store.head store.trail entry)) (may_leave store.disk) in
+    let without : Images → Type 0 = LeadsOn (InArea store.area (StandsWithout machine store.head store.trail)) (may_leave store.disk) in
+    let either : Images → Type 0 = LeadsOn (InArea store.area (StandsWithOrWithout machine store.head store.trail entry)) (may_leave store.disk) in
     let record_torn : Images → Type 0 = LeadsOn (InArea log.area (Without store.head (written_of machine store.trail))) (may_leave mid) in
     let gate_torn : Images → Type 0 = LeadsOn (InArea log.area (WithOrWithout store.head (written_of machine store.trail) written)) (may_leave mid) in
     let begun = rested moment left_since may_leave (seen store.disk) (seen mid) store.disk mid without only_now still same (rests_without machine tells seen may_leave store log bytes sound whole told) in
     first_weakened moment left_since 2 store.disk mid new record_torn without gate_torn either begun same
-    (leads_without machine store.head store.trail store.state entry log.area (may_leave store.disk) (may_leave mid) follow sound.in_area still.leaves)
-    (leads_either machine store.head store.trail store.state entry log.area written (may_leave store.disk) (may_leave mid) follow sound.in_area is still.leaves) run
+    (leads_without machine store.head store.trail store.state entry log.area store.area (may_leave store.disk) (may_leave mid) follow sound.in_area still.leaves)
+    (leads_either machine store.head store.trail store.state entry log.area store.area written (may_leave store.disk) (may_leave mid) follow sound.in_area is still.leaves) run
 
 -- the other area is as it was
-pub other_kept : {D : Type 0} (seen : D → Images) (may_leave : D → Images → Type 0) (moment : D → ℕ) (left_since : D → ℕ → Images → Type 0) (old new : D) (step : List ℕ → List ℕ → Type 0)
-    → LeavesOnly moment left_since old new (LeadsOn (InArea 0 step) (may_leave old)) → Only (seen old) (may_leave old) → left_since new (moment old) (seen new) → other_of 0 (seen new) ≡ other_of 0 (seen old)
-other_kept seen may_leave moment left_since old new step run only here =
+pub other_kept : {D : Type 0} (seen : D → Images) (may_leave : D → Images → Type 0) (moment : D → ℕ) (left_since : D → ℕ → Images → Type 0) (old new : D) (index : ℕ) (step : List ℕ → List ℕ → Type 0)
+    → LeavesOnly moment left_since old new (LeadsOn (InArea index step) (may_leave old)) → Only (seen old) (may_leave old) → left_since new (moment old) (seen new) → other_of index (seen new) ≡ other_of index (seen old)
+other_kept seen may_leave moment left_since old new index step run only here =
     let leads = run.each (seen new) here in
-    leads.2.there ∙ ap (other_of 0) (only leads.0 leads.1)
+    leads.2.there ∙ ap (other_of index) (only leads.0 leads.1)
 
 pub then_some_doubt : {E : Type 0} (entry : E) (calls : ℕ) → then_some (nat_lt 2 calls) entry ≡ doubt_after entry calls
 then_some_doubt {E = E} entry calls =
@@ -290,77 +298,89 @@ sound_rested {E = E} machine tells seen may_leave store log bytes disk trail pas
       trail = sound.trail;
       count = sound.count;
       in_area = sound.in_area;
+      within = sound.within;
       at = sound.at;
       history = sound.history;
       state = sound.state;
       no_doubt = sound.no_doubt;
+      no_renewal = sound.no_renewal;
       stands = λ told whole. stands-still log store.head (written_of machine store.trail) (seen store.disk) (seen disk) (may_leave store.disk) (may_leave disk) past past' (still told) (sound.stands told whole);
       settled = λ told whole left may. sound.settled told whole left ((still told).leaves left may) ∙ sym (still told).seen;
+      older = λ told whole. subst (λ (images : Images). IsOlder machine.KIND store.head.generation (other_of store.area images)) (sym (still told).seen) (sound.older told whole);
       leaves = λ told left may. sound.leaves told left ((still told).leaves left may);
     } in
     subst (λ (es : List E). IsSound machine tells seen may_leave (record store { disk = disk; trail = es }) log bytes) (sym same) one
 
 -- the store is broken
-pub sound_broken : {M D E : Type 0} (machine : Ghosts M E) (tells : Type 0) (seen : D → Images) (may_leave : D → Images → Type 0) (store : StoreState M D E) (log log' : LogState) (bytes : ℕ) (disk : D) (trail : List E) (state : M) (doubt : Option E)
-    → IsSound machine tells seen may_leave store log bytes → log' ≡ log → trail ≡ store.trail → (tells → (left : Images) → may_leave disk left → OpensInDoubt machine store.head store.trail doubt left)
-    → IsSound machine tells seen may_leave (record store { disk = disk; trail = trail; state = state; broken = true; doubt = doubt }) log' bytes
-sound_broken {E = E} machine tells seen may_leave store log log' bytes disk trail state doubt sound logs same leaves =
-    let one : IsSound machine tells seen may_leave (record store { disk = disk; state = state; broken = true; doubt = doubt }) log bytes = record {
+pub sound_broken : {M D E : Type 0} (machine : Ghosts M E) (tells : Type 0) (seen : D → Images) (may_leave : D → Images → Type 0) (store : StoreState M D E) (log log' : LogState) (bytes : ℕ) (disk : D) (trail : List E) (state : M) (doubt : Option E) (renewal : Option Head)
+    → IsSound machine tells seen may_leave store log bytes → log' ≡ log → trail ≡ store.trail → (tells → (left : Images) → may_leave disk left → OpensInDoubt machine (record store { doubt = doubt; renewal = renewal }) left)
+    → IsSound machine tells seen may_leave (record store { disk = disk; trail = trail; state = state; broken = true; doubt = doubt; renewal = renewal }) log' bytes
+sound_broken {E = E} machine tells seen may_leave store log log' bytes disk trail state doubt renewal sound logs same leaves =
+    let one : IsSound machine tells seen may_leave (record store { disk = disk; state = state; broken = true; doubt = doubt; renewal = renewal }) log bytes = record {
       right = sound.right;
       of_kind = sound.of_kind;
       trail = sound.trail;
       count = sound.count;
       in_area = sound.in_area;
+      within = sound.within;
       at = sound.at;
       history = sound.history;
       state = λ whole. cc;
       no_doubt = λ whole. cc;
+      no_renewal = λ whole. cc;
       stands = λ told whole. absurd cc;
       settled = λ told whole. absurd cc;
+      older = λ told whole. absurd cc;
       leaves = leaves;
     } in
-    let two = subst (λ (es : List E). IsSound machine tells seen may_leave (record store { disk = disk; trail = es; state = state; broken = true; doubt = doubt }) log bytes) (sym same) one in
-    subst (λ (l : LogState). IsSound machine tells seen may_leave (record store { disk = disk; trail = trail; state = state; broken = true; doubt = doubt }) l bytes) (sym logs) two
+    let two = subst (λ (es : List E). IsSound machine tells seen may_leave (record store { disk = disk; trail = es; state = state; broken = true; doubt = doubt; renewal = renewal }) log bytes) (sym same) one in
+    subst (λ (l : LogState). IsSound machine tells seen may_leave (record store { disk = disk; trail = trail; state = state; broken = true; doubt = doubt; renewal = renewal }) l bytes) (sym logs) two
 
 -- the entry stands
 pub sound_more : {M D E : Type 0} (machine : Ghosts M E) (tells : Type 0) (seen : D → Images) (may_leave : D → Images → Type 0) (store : StoreState M D E) (log log' : LogState) (bytes bytes' : ℕ) (disk : D) (entry : E) (written : List ℕ) (trail : List E) (state : M)
     → IsSound machine tells seen may_leave store log bytes → store.broken ≡ false → MayFollow machine store.head store.trail store.state entry → written ≡ machine.written entry
     → log'.area ≡ log.area → bytes' ≡ bytes + length written → trail ≡ store.trail ++ entry ∷ [] → state ≡ machine.step store.state entry
-    → (tells → Stands log' store.head (written_of machine store.trail ++ written ∷ []) (seen disk) (may_leave disk)) → (tells → Only (seen disk) (may_leave disk))
+    → (tells → Stands log' store.head (written_of machine store.trail ++ written ∷ []) (seen disk) (may_leave disk)) → (tells → Only (seen disk) (may_leave disk)) → (tells → other_of store.area (seen disk) ≡ other_of store.area (seen store.disk))
     → IsSound machine tells seen may_leave (record store { disk = disk; trail = trail; state = state }) log' bytes'
-sound_more {M = M} {E = E} machine tells seen may_leave store log log' bytes bytes' disk entry written trail state sound whole follow is area count more stepped stands settled =
+sound_more {M = M} {E = E} machine tells seen may_leave store log log' bytes bytes' disk entry written trail state sound whole follow is area count more stepped stands settled kept =
     let pushed = ap (λ (b : List ℕ). written_of machine store.trail ++ b ∷ []) is ∙ sym (written_of-push machine store.trail entry) in
     let stand = λ (told : tells). subst (λ (es : List (List ℕ)). Stands log' store.head es (seen disk) (may_leave disk)) pushed (stands told) in
-    let first : log'.area ≡ 0 = area ∙ sound.in_area in
+    let first : log'.area ≡ store.area = area ∙ sound.in_area in
+    let older = λ (told : tells). subst (λ (xs : List ℕ). IsOlder machine.KIND store.head.generation xs) (sym (kept told)) (sound.older told whole) in
     let one : IsSound machine tells seen may_leave (record store { disk = disk; trail = store.trail ++ entry ∷ []; state = machine.step store.state entry }) log' bytes' = record {
       right = sound.right;
       of_kind = sound.of_kind;
       trail = follow.whole;
       count = omega (arith, sound.count, count, ap length is, ap bytes_of (written_of-push machine store.trail entry), bytes_of-push (written_of machine store.trail) (machine.written entry));
       in_area = first;
+      within = sound.within;
       at = machine.step store.state entry;
       history = follow.more;
       state = λ sure. refl;
       no_doubt = sound.no_doubt;
+      no_renewal = sound.no_renewal;
       stands = λ told sure. stand told;
       settled = λ told sure. settled told;
+      older = λ told sure. older told;
       leaves = λ told left may.
-          inl (opens_whole machine store.head store.trail store.state entry (area_of 0 left) follow (subst (λ (a : ℕ). Spelled store.head (written_of machine (store.trail ++ entry ∷ [])) (area_of a left)) first ((stand told).leaves left may).spelled));
+          as_it_was (opens_after machine store.area store.head (store.trail ++ entry ∷ []) (seen disk) left sound.within (older told) (ap (other_of store.area) (settled told left may))
+          (opens_whole machine store.head store.trail store.state entry (area_of store.area left) follow (subst (λ (a : ℕ). Spelled store.head (written_of machine (store.trail ++ entry ∷ [])) (area_of a left)) first ((stand told).leaves left may).spelled)));
     } in
     let two = subst (λ (es : List E). IsSound machine tells seen may_leave (record store { disk = disk; trail = es; state = machine.step store.state entry }) log' bytes') (sym more) one in
     subst (λ (s : M). IsSound machine tells seen may_leave (record store { disk = disk; trail = trail; state = s }) log' bytes') (sym stepped) two
 
 -- and is acknowledged
 pub acknowledged_more : {M D E : Type 0} (machine : Ghosts M E) (seen : D → Images) (may_leave : D → Images → Type 0) (store : StoreState M D E) (log' : LogState) (disk : D) (entry : E) (written : List ℕ) (trail : List E) (state : M)
-    → MayFollow machine store.head store.trail store.state entry → written ≡ machine.written entry → log'.area ≡ 0 → trail ≡ store.trail ++ entry ∷ []
+    → MayFollow machine store.head store.trail store.state entry → written ≡ machine.written entry → log'.area ≡ store.area → store.area < 2 → IsOlder machine.KIND store.head.generation (other_of store.area (seen disk)) → trail ≡ store.trail ++ entry ∷ []
     → Stands log' store.head (written_of machine store.trail ++ written ∷ []) (seen disk) (may_leave disk) → Only (seen disk) (may_leave disk)
     → Acknowledges machine seen may_leave (record store { disk = disk; trail = trail; state = state })
-acknowledged_more {E = E} machine seen may_leave store log' disk entry written trail state follow is area more stands settled = record {
+acknowledged_more {E = E} machine seen may_leave store log' disk entry written trail state follow is area within older more stands settled = record {
   settled = settled;
   opens =
       let spelled = subst (λ (a : ℕ). Spelled store.head (written_of machine store.trail ++ written ∷ []) (area_of a (seen disk))) area stands.reads.spelled in
-      let here = subst (λ (b : List ℕ). Spelled store.head (written_of machine store.trail ++ b ∷ []) (area_of 0 (seen disk))) is spelled in
-      subst (λ (es : List E). Opens machine store.head es (seen disk)) (sym more) (stands_with machine store.head store.trail store.state entry (area_of 0 (seen disk)) follow here);
+      let here = subst (λ (b : List ℕ). Spelled store.head (written_of machine store.trail ++ b ∷ []) (area_of store.area (seen disk))) is spelled in
+      let stands = stands_with machine store.head store.trail store.state entry (area_of store.area (seen disk)) follow here in
+      subst (λ (es : List E). OpensIn machine store.area store.head es (seen disk)) (sym more) (record { within = within; stands = stands; older = older });
 }
 
 -- its state is where the history leads

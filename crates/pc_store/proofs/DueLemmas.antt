@@ -22,14 +22,14 @@ if_device Device P Q f is = f is
 if_device (Malformed area place) P Q f is = tt
 if_device Memory P Q f is = tt
 
-by_fault : (X : Type 0) (fault : LogFault) (P Q : Type 0) → (P → Q) → log_opening.OnDevice {X = X} (Err fault) P → IfDevice (of_log fault) Q
-by_fault X log.Device P Q f given = f given
-by_fault X (log.Malformed place) P Q f given = tt
-by_fault X log.Memory P Q f given = tt
+by_fault : (X : Type 0) (index : ℕ) (fault : LogFault) (P Q : Type 0) → (P → Q) → log_opening.OnDevice {X = X} (Err fault) P → IfDevice (of_log index fault) Q
+by_fault X index log.Device P Q f given = f given
+by_fault X index (log.Malformed place) P Q f given = tt
+by_fault X index log.Memory P Q f given = tt
 
 -- a fault of the log's opening is one of the store's
-pub if_log_device : (X : Type 0) (fault : LogFault) (answer : StoreFault) (P Q : Type 0) → answer ≡ of_log fault → (P → Q) → log_opening.OnDevice {X = X} (Err fault) P → IfDevice answer Q
-if_log_device X fault answer P Q is f given = subst (λ (a : StoreFault). IfDevice a Q) (sym is) (by_fault X fault P Q f given)
+pub if_log_device : (X : Type 0) (index : ℕ) (fault : LogFault) (answer : StoreFault) (P Q : Type 0) → answer ≡ of_log index fault → (P → Q) → log_opening.OnDevice {X = X} (Err fault) P → IfDevice answer Q
+if_log_device X index fault answer P Q is f given = subst (λ (a : StoreFault). IfDevice a Q) (sym is) (by_fault X index fault P Q f given)
 
 pub more_taken : (due : ℕ → Type 0) (moment taken more more' : ℕ) → more' ≤ more → DueOrTaken due moment taken more' → DueOrTaken due moment taken more
 more_taken due moment taken more more' most = ⊎_elim (λ is. inl is) (λ is. inr (omega arith))

@@ -155,7 +155,7 @@ pub entries_refused : {M E : Type 0} (machine : Ghosts M E) (tells : Type 0) (ar
 entries_refused machine tells area old mid new state state' state'' first gate number bytes trail NotMade reading next = absurd next
 entries_refused machine tells area old mid new state state' state'' first gate number bytes trail Device reading next = tt
 entries_refused machine tells area old mid new state state' state'' first gate number bytes trail (Malformed place_area place) reading next = (
-  next.0,
+  next.0 ∙ reading.taken.in_area,
   λ told. record {
     trail = trail;
     to = mid.reached;

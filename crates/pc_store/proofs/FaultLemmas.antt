@@ -3,20 +3,23 @@ use Rattle.std.proofs.Common.{◌≡◌, ◌∙◌, ℕ, ◌+◌, ◌^◌, ◌�
 use Rattle.std.specs.List.{AllByRecursion}
 use Rattle.std.specs.Prelude.{IfOk, IfErr}
 use Rattle.pc_base.specs.declared.machine.Machine.{Ghosts}
+use Rattle.pc_disk.specs.Images.{Images, area_of}
 use Rattle.pc_log.specs.Area.{Head, is_made}
 use Rattle.pc_log.specs.Reading.{Reached, behind, behind_head, head_of, next_of}
 use Rattle.pc_log.specs.Opening.{Reads}
-use Rattle.pc_log.proofs.Trails.{area_again}
 use Rattle.pc_base.specs.declared.store_fault.StoreFault.{StoreFault}
 use Rattle.pc_base.specs.declared.store_fault.StoreFault.TheVariants.{NotMade, Device, Malformed, Memory}
 use Rattle.pc_store.specs.declared.reading.History.{History}
 use Rattle.pc_store.specs.History.{AreAllowed, IsBase, after, written_of}
-use Rattle.pc_store.specs.Opening.{FaultBehind, FirstFault, IsFaultOf, ReadsTo, RefusesAs, limited}
+use Rattle.pc_store.specs.Opening.{FaultBehind, FirstFault, FirstFaultIn, IsFaultOf, ReadsTo, RefusesAs, limited}
+use Rattle.pc_store.specs.Opening.FirstFaultIn.{in_none, in_current}
+use Rattle.pc_store.specs.Current.{IsCurrent, NoneMade}
 use Rattle.pc_store.specs.Opening.FaultBehind.{cut_off, past_last, unread, not_allowed}
 use Rattle.pc_store.specs.Opening.FirstFault.{in_head, in_base, in_number, in_entry}
-use Rattle.pc_store.specs.Reading.{HoldsHistory, head_of_history}
+use Rattle.pc_store.specs.Reading.{Counts, HoldsCurrent, IsFaultAt, head_of_history}
 use Rattle.pc_store.proofs.SameLemmas.{Lawful, next_is, no_fault_before, no_first_fault, one_base, one_head, same_next}
-use Rattle.pc_store.proofs.OpenedLemmas.{held_stands}
+use Rattle.pc_store.proofs.OpenedLemmas.{held_opens, no_fault_in}
+use Rattle.pc_store.proofs.CurrentLemmas.{faultless, made_beside, none_beside, one_current, one_none_counts, opens_current}
 
 abbrev faulty_next : ℕ → Result (Option (List ℕ)) ℕ
 faulty_next place = Err place
@@ -133,34 +136,55 @@ one_first_fault machine laws area place place' (in_entry head base trail reached
 one_first_fault machine laws area place place' (in_entry head base trail reached made is reads fault) (in_entry head' base' trail' reached' made' is' reads' fault') =
     one_entry_place machine laws area head head' base base' trail trail' reached reached' place place' (one_head head' head machine.KIND area is' is) reads reads' fault fault'
 
--- a made area is one that has a fault
-faulty_is_made : {M E : Type 0} (machine : Ghosts M E) (area : List ℕ) (place : ℕ) → FirstFault machine area place → is_made area ≡ true
-faulty_is_made machine area place (in_head made is) = made
-faulty_is_made machine area place (in_base head fault made is bad at) = made
-faulty_is_made machine area place (in_number head base made is canonical saved not at) = made
-faulty_is_made machine area place (in_entry head base trail reached made is reads fault) = made
-
 not_both : (b : Bool) → b ≡ true → b ≡ false → ⊥
 not_both b made not = let e : true ≡ false = sym made ∙ not in cc
 
+-- so have two
+one_fault_in : {M E : Type 0} (machine : Ghosts M E) → Lawful machine → (images : Images) (index place index' place' : ℕ) → FirstFaultIn machine images index place → FirstFaultIn machine images index' place' → (index ≡ index') × (place ≡ place')
+one_fault_in machine laws images index place index' place' (in_none none) (in_none none') = one_none_counts machine.KIND images index place index' place' none none'
+one_fault_in machine laws images index place index' place' (in_none none) (in_current current' fault') = absurd (none_beside machine.KIND index' images index place current' none)
+one_fault_in machine laws images index place index' place' (in_current current fault) (in_none none') = absurd (none_beside machine.KIND index images index' place' current none')
+one_fault_in machine laws images index place index' place' (in_current current fault) (in_current current' fault') =
+    let here : index' ≡ index = one_current machine.KIND index' index images current' current in
+    (sym here, one_first_fault machine laws (area_of index images) place place' fault (subst (λ (i : ℕ). FirstFault machine (area_of i images) place') here fault'))
+
+none_faultless : {M E : Type 0} (machine : Ghosts M E) (images : Images) (index place : ℕ) → NoneMade images → FirstFaultIn machine images index place → ⊥
+none_faultless machine images index place none (in_none fault) = faultless machine.KIND images index place none fault
+none_faultless machine images index place none (in_current current fault) = made_beside machine.KIND index images current none
+
+-- the fault of the area that counts is the fault of both
+pub fault_in : {M E : Type 0} (machine : Ghosts M E) (images : Images) (index : ℕ) (fault : StoreFault) → IsCurrent machine.KIND index images → IsFaultAt machine index (area_of index images) fault → IsFaultOf machine images fault
+fault_in machine images index NotMade current bad = absurd (not_both (is_made (area_of index images)) current.has.made bad)
+fault_in machine images index Device current bad = tt
+fault_in machine images index (Malformed place_area place) current bad = subst (λ (i : ℕ). FirstFaultIn machine images i place) (sym bad.0) (in_current current bad.1)
+fault_in machine images index Memory current bad = tt
+
+-- and so is that none counts
+pub none_in : {M E : Type 0} (machine : Ghosts M E) (images : Images) (fault : StoreFault) → Counts machine.KIND images (Err fault) → IsFaultOf machine images fault
+none_in machine images NotMade bad = bad
+none_in machine images Device bad = tt
+none_in machine images (Malformed index place) bad = in_none bad
+none_in machine images Memory bad = absurd bad
+
 -- what isn't made is refused as that
-pub refuses_unmade : {M E : Type 0} (machine : Ghosts M E) (tells : Type 0) (area : List ℕ) (result : Result (History M E) StoreFault) → tells
-    → IfOk result (HoldsHistory machine tells area) → IfErr result (IsFaultOf machine area) → is_made area ≡ false → RefusesAs result NotMade
-refuses_unmade machine tells area (Ok history) told holds bad not =
-    let stands = held_stands machine tells area history told holds in
-    not_both (is_made area) (area_again machine.KIND (head_of_history machine history) (written_of machine history.trail.items) area stands.area_of).made not
-refuses_unmade machine tells area (Err NotMade) told holds bad not = inl refl
-refuses_unmade machine tells area (Err Device) told holds bad not = inr tt
-refuses_unmade machine tells area (Err (Malformed place_area place)) told holds bad not = absurd (not_both (is_made area) (faulty_is_made machine area place bad.1) not)
-refuses_unmade machine tells area (Err Memory) told holds bad not = inr tt
+pub refuses_unmade : {M E : Type 0} (machine : Ghosts M E) → Lawful machine → (tells : Type 0) (images : Images) (result : Result (History M E) StoreFault) → tells
+    → IfOk result (HoldsCurrent machine tells images) → IfErr result (IsFaultOf machine images) → NoneMade images → RefusesAs result NotMade
+refuses_unmade machine laws tells images (Ok history) told holds bad none =
+    let opens = held_opens machine tells images history told holds in
+    made_beside machine.KIND history.log.area images (opens_current machine history.log.area (head_of_history machine history) history.trail.items images opens) none
+refuses_unmade machine laws tells images (Err NotMade) told holds bad none = inl refl
+refuses_unmade machine laws tells images (Err Device) told holds bad none = inr tt
+refuses_unmade machine laws tells images (Err (Malformed index place)) told holds bad none = absurd (none_faultless machine images index place none bad)
+refuses_unmade machine laws tells images (Err Memory) told holds bad none = inr tt
 
 -- what has a fault is refused at its first
-pub refuses_fault : {M E : Type 0} (machine : Ghosts M E) → Lawful machine → (tells : Type 0) (area : List ℕ) (result : Result (History M E) StoreFault) → tells
-    → IfOk result (HoldsHistory machine tells area) → IfErr result (IsFaultOf machine area) → (place : ℕ) → FirstFault machine area place → RefusesAs result (Malformed 0 place)
-refuses_fault machine laws tells area (Ok history) told holds bad place fault =
-    no_first_fault machine laws (head_of_history machine history) history.trail.items area place (held_stands machine tells area history told holds) fault
-refuses_fault machine laws tells area (Err NotMade) told holds bad place fault = absurd (not_both (is_made area) (faulty_is_made machine area place fault) bad)
-refuses_fault machine laws tells area (Err Device) told holds bad place fault = inr tt
-refuses_fault machine laws tells area (Err (Malformed place_area other)) told holds bad place fault =
-    inl (ap (λ (a : ℕ). Malformed a other) bad.0 ∙ ap (λ (p : ℕ). Malformed 0 p) (one_first_fault machine laws area other place bad.1 fault))
-refuses_fault machine laws tells area (Err Memory) told holds bad place fault = inr tt
+pub refuses_fault : {M E : Type 0} (machine : Ghosts M E) → Lawful machine → (tells : Type 0) (images : Images) (result : Result (History M E) StoreFault) → tells
+    → IfOk result (HoldsCurrent machine tells images) → IfErr result (IsFaultOf machine images) → (index place : ℕ) → FirstFaultIn machine images index place → RefusesAs result (Malformed index place)
+refuses_fault machine laws tells images (Ok history) told holds bad index place fault =
+    no_fault_in machine laws history.log.area (head_of_history machine history) history.trail.items images index place (held_opens machine tells images history told holds) fault
+refuses_fault machine laws tells images (Err NotMade) told holds bad index place fault = absurd (none_faultless machine images index place bad fault)
+refuses_fault machine laws tells images (Err Device) told holds bad index place fault = inr tt
+refuses_fault machine laws tells images (Err (Malformed other_index other)) told holds bad index place fault =
+    let one = one_fault_in machine laws images other_index other index place bad fault in
+    inl (ap (λ (i : ℕ). Malformed i other) one.0 ∙ ap (λ (p : ℕ). Malformed index p) one.1)
+refuses_fault machine laws tells images (Err Memory) told holds bad index place fault = inr tt

@@ -13,9 +13,9 @@ use Rattle.pc_base.specs.declared.store_fault.StoreFault.{StoreFault}
 use Rattle.pc_base.specs.declared.store_fault.StoreFault.TheVariants.{NotMade, Device, Malformed, Memory}
 use Rattle.pc_store.specs.declared.reading.Entries.{Entries}
 use Rattle.pc_store.specs.History.{AreAllowed, after, written_of}
-use Rattle.pc_store.specs.Opening.{FaultBehind, IsFaultOf}
+use Rattle.pc_store.specs.Opening.{FaultBehind}
 use Rattle.pc_store.specs.Opening.FirstFault.{in_base, in_number, in_entry}
-use Rattle.pc_store.specs.Reading.{BaseFault, EntriesAre, HoldsHistory, LoadsBase}
+use Rattle.pc_store.specs.Reading.{BaseFault, EntriesAre, IsFaultAt, IsHeldIn, LoadsBase}
 
 -- a head of these parts
 abbrev head_with : ℕ → ℕ → ℕ → List ℕ → Head
@@ -26,25 +26,25 @@ length-entries [] = refl
 length-entries (entry ∷ entries) =
     omega (arith, length-append (entry_bytes entry) (flat_map entry_bytes entries), length-entry_bytes entry, length-entries entries)
 
-pub base_refused : {M E : Type 0} (machine : Ghosts M E) (area : List ℕ) (generation first : ℕ) (base : List ℕ) (fault : StoreFault)
-    → is_made area ≡ true → head_of machine.KIND area ≡ Ok (head_with machine.KIND generation first base) → BaseFault machine base first fault → IsFaultOf machine area fault
-base_refused machine area generation first base NotMade made head bad = absurd bad
-base_refused machine area generation first base Device made head bad = tt
-base_refused machine area generation first base (Malformed place_area place) made head bad = (
+pub base_refused : {M E : Type 0} (machine : Ghosts M E) (index : ℕ) (area : List ℕ) (generation first : ℕ) (base : List ℕ) (fault : StoreFault)
+    → is_made area ≡ true → head_of machine.KIND area ≡ Ok (head_with machine.KIND generation first base) → BaseFault machine index base first fault → IsFaultAt machine index area fault
+base_refused machine index area generation first base NotMade made head bad = absurd bad
+base_refused machine index area generation first base Device made head bad = tt
+base_refused machine index area generation first base (Malformed place_area place) made head bad = (
   bad.0,
   ⊎_elim (λ unread. in_base (head_with machine.KIND generation first base) unread.0 made head unread.1 unread.2)
       (λ unsuited. in_number (head_with machine.KIND generation first base) unsuited.0 made head unsuited.1 unsuited.2 unsuited.3 unsuited.4) bad.1,
 )
-base_refused machine area generation first base Memory made head bad = tt
+base_refused machine index area generation first base Memory made head bad = tt
 
-pub entries_refused_in : {M E : Type 0} (machine : Ghosts M E) (tells : Type 0) (area : List ℕ) (generation first : ℕ) (base : List ℕ) (old new : OpeningState) (state state' : M) (fault : StoreFault)
-    → is_made area ≡ true → head_of machine.KIND area ≡ Ok (head_with machine.KIND generation first base) → old.reached ≡ behind_head base → LoadsBase machine base first state
-    → EntriesAre machine tells area old new state state' first (Err fault) → tells → IsFaultOf machine area fault
-entries_refused_in machine tells area generation first base old new state state' NotMade made head begun loads bad told = absurd bad
-entries_refused_in machine tells area generation first base old new state state' Device made head begun loads bad told = tt
-entries_refused_in machine tells area generation first base old new state state' (Malformed place_area place) made head begun loads bad told =
+pub entries_refused_in : {M E : Type 0} (machine : Ghosts M E) (tells : Type 0) (index : ℕ) (area : List ℕ) (generation first : ℕ) (base : List ℕ) (old new : OpeningState) (state state' : M) (fault : StoreFault)
+    → is_made area ≡ true → head_of machine.KIND area ≡ Ok (head_with machine.KIND generation first base) → old.area ≡ index → old.reached ≡ behind_head base → LoadsBase machine base first state
+    → EntriesAre machine tells area old new state state' first (Err fault) → tells → IsFaultAt machine index area fault
+entries_refused_in machine tells index area generation first base old new state state' NotMade made head same begun loads bad told = absurd bad
+entries_refused_in machine tells index area generation first base old new state state' Device made head same begun loads bad told = tt
+entries_refused_in machine tells index area generation first base old new state state' (Malformed place_area place) made head same begun loads bad told =
     let stopped = bad.1 told in (
-      bad.0,
+      bad.0 ∙ same,
       in_entry (head_with machine.KIND generation first base) loads.loaded stopped.trail stopped.to made head
           (record {
             is_base = record { canonical = loads.canonical; saved = loads.saved; suits = loads.suits };
@@ -55,14 +55,14 @@ entries_refused_in machine tells area generation first base old new state state'
           })
           (subst (λ (s : _). FaultBehind machine area (after machine s stopped.trail) (first + length stopped.trail) stopped.to place) loads.numbered stopped.fault),
     )
-entries_refused_in machine tells area generation first base old new state state' Memory made head begun loads bad told = tt
+entries_refused_in machine tells index area generation first base old new state state' Memory made head same begun loads bad told = tt
 
-pub history_held : {M E : Type 0} (machine : Ghosts M E) (tells : Type 0) (area : List ℕ) (generation first : ℕ) (base : List ℕ) (old new : OpeningState) (state state' : M) (found : Entries E) (log : LogState)
+pub history_held : {M E : Type 0} (machine : Ghosts M E) (tells : Type 0) (index : ℕ) (area : List ℕ) (generation first : ℕ) (base : List ℕ) (old new : OpeningState) (state state' : M) (found : Entries E) (log : LogState)
     → IsHead (head_with machine.KIND generation first base) → (tells → BeginsWith (head_with machine.KIND generation first base) area)
-    → old ≡ record { area = 0; reached = behind_head base } → LoadsBase machine base first state
+    → old ≡ record { area = index; reached = behind_head base } → LoadsBase machine base first state
     → EntriesAre machine tells area old new state state' first (Ok found) → log ≡ record { area = new.area; gate = new.reached.gate }
-    → HoldsHistory machine tells area (record { log = log; generation = generation; first = first; base = base; trail = found.trail; bytes = found.bytes; state = state' })
-history_held machine tells area generation first base old new state state' found log right begins begun loads are is =
+    → IsHeldIn machine tells index area (record { log = log; generation = generation; first = first; base = base; trail = found.trail; bytes = found.bytes; state = state' })
+history_held machine tells index area generation first base old new state state' found log right begins begun loads are is =
     let head = head_with machine.KIND generation first base in
     let taken = are.0 in
     let entries = written_of machine found.trail.items in
@@ -70,9 +70,9 @@ history_held machine tells area generation first base old new state state' found
     let old_gate : old.reached.gate ≡ 30 + length base = ap (λ (o : OpeningState). o.reached.gate) begun in
     let old_entries : old.reached.entries ≡ 0 = ap (λ (o : OpeningState). o.reached.entries) begun in
     let old_bytes : old.reached.bytes ≡ 0 = ap (λ (o : OpeningState). o.reached.bytes) begun in
-    let in_area : new.area ≡ 0 = taken.in_area ∙ ap (λ (o : OpeningState). o.area) begun in
+    let in_area : new.area ≡ index = taken.in_area ∙ ap (λ (o : OpeningState). o.area) begun in
     let gate : new.reached.gate ≡ length (front head entries) = omega (arith, taken.gate, old_gate, length-front head entries, length-entries entries, same_length) in
-    record {
+    (ap (λ (l : LogState). l.area) is ∙ in_area, record {
       right = right;
       trail = record {
         each = taken.sizes;
@@ -87,11 +87,11 @@ history_held machine tells area generation first base old new state state' found
         leads = taken.leads ∙ ap (λ (s : _). after machine s found.trail.items) loads.numbered;
         numbers = taken.numbers;
       };
-      log_is = is ∙ ap (λ (k : ℕ). record { area = k; gate = new.reached.gate }) in_area ∙ ap (λ (k : ℕ). record { area = 0; gate = k }) gate;
+      gate = ap (λ (l : LogState). l.gate) is ∙ gate;
       spelled = λ told.
           area_read head entries area (drop new.reached.gate area) (begins told)
           (subst (λ (k : ℕ). drop k area ≡ flat_map entry_bytes entries ++ drop new.reached.gate area) old_gate (taken.spelled told)) (closed_takes new.reached area (are.2 told));
-    }
+    })
 
 -- the area may be named by what is read before or after
 pub entries_in : {M E : Type 0} (machine : Ghosts M E) (tells : Type 0) (area area' : List ℕ) (old new : OpeningState) (state state' : M) (first : ℕ) (found : Entries E)

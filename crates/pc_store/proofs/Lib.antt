@@ -1,6 +1,7 @@
 pub mod HistoryLemmas
 pub mod ReadingLemmas
 pub mod EntriesLemmas
+pub mod CurrentLemmas
 pub mod FoundLemmas
 pub mod MadeLemmas
 pub mod SameLemmas
@@ -9,3 +10,4 @@ pub mod DueLemmas
 pub mod CommitLemmas
 pub mod FaultLemmas
 pub mod MakingLemmas
+pub mod FoldLemmas

@@ -15,14 +15,14 @@ numbered_from machine old new is given suits =
 pub made_holds : {M E : Type 0} (machine : Ghosts M E) (tells : Type 0) (area : List ℕ) (history : History M E)
     → (1 ≤ machine.KIND) × (machine.KIND ≤ 3) → machine.is_canonical machine.begin → machine.suits machine.begin 1 ≡ true → length (machine.saved machine.begin) ≤ 1073741824
     → history.generation ≡ 1 → history.first ≡ 1 → history.base ≡ machine.saved machine.begin → history.trail.items ≡ [] → history.bytes ≡ 0 → history.state ≡ machine.numbered machine.begin 1
-    → history.log ≡ record { area = 0; gate = 30 + length history.base } → (tells → Spelled (head_of_history machine history) [] area)
+    → history.log.gate ≡ 30 + length history.base → (tells → Spelled (head_of_history machine history) [] area)
     → HoldsHistory machine tells area history
-made_holds machine tells area history kinds canonical suits short generation first base none bytes state log spelled =
+made_holds machine tells area history kinds canonical suits short generation first base none bytes state gate spelled =
     let head = head_of_history machine history in
     let P : List _ → Type 0 = λ es. IsTrail (written_of machine es) in
     let Q : List _ → Type 0 = λ es. history.bytes ≡ bytes_of (written_of machine es) in
     let R : List _ → Type 0 = λ es. IsHistory machine head es history.state in
-    let G : List _ → Type 0 = λ es. history.log ≡ record { area = 0; gate = length (front head (written_of machine es)) } in
+    let G : List _ → Type 0 = λ es. history.log.gate ≡ length (front head (written_of machine es)) in
     let S : List _ → Type 0 = λ es. tells → Spelled head (written_of machine es) area in
     let at : 30 + length history.base ≡ length (front head []) = omega (arith, length-front head []) in
     let fits : machine.suits machine.begin history.first ≡ true = ap (machine.suits machine.begin) first ∙ suits in
@@ -38,6 +38,6 @@ made_holds machine tells area history kinds canonical suits short generation fir
         leads = begun;
         numbers = omega (arith, first);
       });
-      log_is = subst G (sym none) (log ∙ ap (λ (k : ℕ). record { area = 0; gate = k }) at);
+      gate = subst G (sym none) (gate ∙ at);
       spelled = subst S (sym none) spelled;
     }

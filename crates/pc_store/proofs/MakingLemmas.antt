@@ -50,13 +50,13 @@ at_read from mid to old new taken taken' at took not same given =
     let due : DueOrTaken old mid taken 1 = ⊎_elim (λ (is : new mid). inl ((same mid (omega arith)).0 is)) (λ (much : 2 ^ 64 ≤ taken' + 1). inr (omega (arith, took))) given.1 in
     (none_more from mid to old new at not same none, subst (λ (n : ℕ). DueOrTaken old n taken 1) (sym given.0) due)
 
-by_fault : (T X : Type 0) (fault : LogFault) (from mid to : ℕ) (old new : ℕ → Type 0) (taken taken' : ℕ) → mid ≡ from + 1 → taken' ≡ taken → (old from → ⊥) → SameDue mid old new → MakingFails {T = X} (Err fault) mid to new taken' → MakesWhereDue {T = T} (Err (of_log fault)) from to old taken
-by_fault T X log.Device from mid to old new taken taken' at took not same given =
+by_fault : (T X : Type 0) (index : ℕ) (fault : LogFault) (from mid to : ℕ) (old new : ℕ → Type 0) (taken taken' : ℕ) → mid ≡ from + 1 → taken' ≡ taken → (old from → ⊥) → SameDue mid old new → MakingFails {T = X} (Err fault) mid to new taken' → MakesWhereDue {T = T} (Err (of_log index fault)) from to old taken
+by_fault T X index log.Device from mid to old new taken taken' at took not same given =
     ⊎_elim (λ (only : OnlyLastDue mid to new). inl (last_more from mid to old new at not same only)) (λ (read : (to ≡ mid) × (new mid ⊎ (2 ^ 64 ≤ taken' + 1))). inr (at_read from mid to old new taken taken' at took not same read)) given
-by_fault T X (log.Malformed place) from mid to old new taken taken' at took not same given = none_more from mid to old new at not same given
-by_fault T X log.Memory from mid to old new taken taken' at took not same given = tt
+by_fault T X index (log.Malformed place) from mid to old new taken taken' at took not same given = none_more from mid to old new at not same given
+by_fault T X index log.Memory from mid to old new taken taken' at took not same given = tt
 
 -- the area wasn't made, and so the store isn't
-pub making_due : (T X : Type 0) (fault : LogFault) (answer : StoreFault) (from mid to : ℕ) (old new : ℕ → Type 0) (taken taken' : ℕ) → answer ≡ of_log fault → mid ≡ from + 1 → taken' ≡ taken → (old from → ⊥) → SameDue mid old new → MakingFails {T = X} (Err fault) mid to new taken' → MakesWhereDue {T = T} (Err answer) from to old taken
-making_due T X fault answer from mid to old new taken taken' is at took not same given =
-    subst (λ (a : StoreFault). MakesWhereDue {T = T} (Err a) from to old taken) (sym is) (by_fault T X fault from mid to old new taken taken' at took not same given)
+pub making_due : (T X : Type 0) (index : ℕ) (fault : LogFault) (answer : StoreFault) (from mid to : ℕ) (old new : ℕ → Type 0) (taken taken' : ℕ) → answer ≡ of_log index fault → mid ≡ from + 1 → taken' ≡ taken → (old from → ⊥) → SameDue mid old new → MakingFails {T = X} (Err fault) mid to new taken' → MakesWhereDue {T = T} (Err answer) from to old taken
+making_due T X index fault answer from mid to old new taken taken' is at took not same given =
+    subst (λ (a : StoreFault). MakesWhereDue {T = T} (Err a) from to old taken) (sym is) (by_fault T X index fault from mid to old new taken taken' at took not same given)

@@ -1,7 +1,6 @@
 -- Histories of a machine: the record of a base, and the entries since.
 use Rattle.std.specs.Prelude.{◌≡◌, ℕ, ◌+◌, ◌^◌, ◌≤◌, true, List, [], ◌∷◌, length, map}
 use Rattle.pc_base.specs.declared.machine.Machine.{Ghosts}
-use Rattle.pc_disk.specs.Images.{Images, area_of}
 use Rattle.pc_log.specs.Area.{Head}
 use Rattle.pc_log.specs.Opening.{IsAreaOf}
 
@@ -43,7 +42,3 @@ pub record StandsFor {M E : Type 0} (machine : Ghosts M E) (head : Head) (trail 
   pub state : M
   pub history : IsHistory machine head trail state
   pub area_of : IsAreaOf machine.KIND head (written_of machine trail) area
-
--- the store's area does so, area 0
-abbrev pub Opens : {M E : Type 0} → Ghosts M E → Head → List E → Images → Type 0
-Opens machine head trail images = StandsFor machine head trail (area_of 0 images)

@@ -2,7 +2,7 @@
 use Rattle.std.specs.Prelude.{◌≡◌, ◌⊎◌, ℕ, ◌+◌, ◌^◌, ◌<◌, ◌≤◌, ◌==◌, ◌&&◌, nat_le, if◌then◌else◌, true, false, List, length, Some, Result, Ok, Err}
 use Rattle.std.specs.List.{AllByRecursion}
 use Rattle.pc_base.specs.declared.machine.Machine.{Ghosts}
-use Rattle.pc_disk.specs.Images.{Images, InArea}
+use Rattle.pc_disk.specs.Images.{Images, area_of, InArea}
 use Rattle.pc_log.specs.Making.{NoneDue, OldUnmadeOrNew, OnlyLastDue, clear_calls}
 use Rattle.pc_log.specs.Area.{Head, is_made}
 use Rattle.pc_log.specs.Reading.{Reached, behind_head, head_of, next_of}
@@ -11,6 +11,7 @@ use Rattle.pc_store.specs.declared.fault.OpenFault.{OpenFault}
 use Rattle.pc_base.specs.declared.store_fault.StoreFault.{StoreFault}
 use Rattle.pc_base.specs.declared.store_fault.StoreFault.TheVariants.{NotMade, Device, Malformed, Memory}
 use Rattle.pc_store.specs.History.{AreAllowed, IsBase, after, written_of}
+use Rattle.pc_store.specs.Current.{IsCurrent, NoneCounts, NoneMade}
 use Rattle.pc_store.specs.Store.{StoreState}
 
 -- an area was read as far as here: its base, and entries that are allowed
@@ -43,12 +44,17 @@ pub data FirstFault {M E : Type 0} (machine : Ghosts M E) (area : List ℕ) (pla
   in_entry : (head : Head) (base : M) (trail : List E) (reached : Reached) → is_made area ≡ true → head_of machine.KIND area ≡ Ok head → ReadsTo machine area head base trail reached
       → FaultBehind machine area (after machine (machine.numbered base head.first) trail) (head.first + length trail) reached place → FirstFault machine area place
 
--- the fault is that the area isn't made, or its first one, or of the outside
-abbrev pub IsFaultOf : {M E : Type 0} → Ghosts M E → List ℕ → StoreFault → Type 0
-IsFaultOf machine area NotMade = is_made area ≡ false
-IsFaultOf machine area Device = Unit {0}
-IsFaultOf machine area (Malformed place_area place) = (place_area ≡ 0) × FirstFault machine area place
-IsFaultOf machine area Memory = Unit {0}
+-- the first fault of two areas: none counts, or it stands in the one that counts
+pub data FirstFaultIn {M E : Type 0} (machine : Ghosts M E) (images : Images) (index place : ℕ) : Type 0 where
+  in_none : NoneCounts machine.KIND images index place → FirstFaultIn machine images index place
+  in_current : IsCurrent machine.KIND index images → FirstFault machine (area_of index images) place → FirstFaultIn machine images index place
+
+-- the fault is that neither area is made, or the first one, or of the outside
+abbrev pub IsFaultOf : {M E : Type 0} → Ghosts M E → Images → StoreFault → Type 0
+IsFaultOf machine images NotMade = NoneMade images
+IsFaultOf machine images Device = Unit {0}
+IsFaultOf machine images (Malformed index place) = FirstFaultIn machine images index place
+IsFaultOf machine images Memory = Unit {0}
 
 -- the fault isn't one of the bytes
 abbrev pub IsOutside : StoreFault → Type 0
@@ -98,10 +104,10 @@ abbrev pub RefusesAs : {T : Type 0} → Result T StoreFault → StoreFault → T
 RefusesAs (Ok value) fault = ⊥
 RefusesAs (Err given) fault = (given ≡ fault) ⊎ IsOutside given
 
--- opening finds this history, unless the disk failed or memory was wanted
-abbrev pub OpensAs : {M D E : Type 0} → Head → List E → Result (StoreState M D E) (OpenFault D) → Type 0
-OpensAs head trail (Ok store) = (store.head ≡ head) × (store.trail ≡ trail)
-OpensAs head trail (Err fault) = IsOutside fault.cause
+-- opening finds this history in this area, unless the disk failed or memory was wanted
+abbrev pub OpensAs : {M D E : Type 0} → ℕ → Head → List E → Result (StoreState M D E) (OpenFault D) → Type 0
+OpensAs index head trail (Ok store) = (store.area ≡ index) × (store.head ≡ head) × (store.trail ≡ trail)
+OpensAs index head trail (Err fault) = IsOutside fault.cause
 
 -- of the disk of the store, or of the one that is handed back
 abbrev pub OnDisk : {M D E : Type 0} → Result (StoreState M D E) (OpenFault D) → (D → Type 0) → Type 0

@@ -36,9 +36,9 @@ impl<M: Machine, D: Disk + Drop> Store<M, D> {
 
         // A crash at any moment leaves the history, with the entry as a whole or without it; and without it up
         // to the second device call.
-        ensures any_moment { D.tells → LeavesOnly D.moment D.left_since self.old.disk self.new.disk (LeadsOn (InArea 0 (StandsWithOrWithout M.Machine.own self.old.head self.old.trail entry)) (D.may_leave self.old.disk)) }
-        ensures first_two { D.tells → LeavesFirst D.moment D.left_since 2 self.old.disk self.new.disk (LeadsOn (InArea 0 (StandsWithout M.Machine.own self.old.head self.old.trail)) (D.may_leave self.old.disk)) (LeadsOn (InArea 0 (StandsWithOrWithout M.Machine.own self.old.head self.old.trail entry)) (D.may_leave self.old.disk)) }
-        ensures other_area { D.tells → other_of 0 (D.seen self.new.disk) ≡ other_of 0 (D.seen self.old.disk) }
+        ensures any_moment { D.tells → LeavesOnly D.moment D.left_since self.old.disk self.new.disk (LeadsOn (InArea self.old.area (StandsWithOrWithout M.Machine.own self.old.head self.old.trail entry)) (D.may_leave self.old.disk)) }
+        ensures first_two { D.tells → LeavesFirst D.moment D.left_since 2 self.old.disk self.new.disk (LeadsOn (InArea self.old.area (StandsWithout M.Machine.own self.old.head self.old.trail)) (D.may_leave self.old.disk)) (LeadsOn (InArea self.old.area (StandsWithOrWithout M.Machine.own self.old.head self.old.trail entry)) (D.may_leave self.old.disk)) }
+        ensures other_area { D.tells → other_of self.old.area (D.seen self.new.disk) ≡ other_of self.old.area (D.seen self.old.disk) }
 
         ensures memory { OnMemory result (Untouched D.Disk.own self.old.disk self.new.disk) }
         ensures calls { CommitCalls result (D.moment self.old.disk) (D.moment self.new.disk) }
@@ -69,9 +69,9 @@ impl<M: Machine, D: Disk + Drop> Store<M, D> {
         ensures replay { OnOk result (IsReplay M.Machine.own self.new.head self.new.trail self.new.state) }
         ensures full { FullWhere result false }
         ensures acknowledged { D.tells → OnOk result (Acknowledges M.Machine.own D.seen D.may_leave self.new) }
-        ensures any_moment { D.tells → LeavesOnly D.moment D.left_since self.old.disk self.new.disk (LeadsOn (InArea 0 (StandsWithOrWithout M.Machine.own self.old.head self.old.trail entry)) (D.may_leave self.old.disk)) }
-        ensures first_two { D.tells → LeavesFirst D.moment D.left_since 2 self.old.disk self.new.disk (LeadsOn (InArea 0 (StandsWithout M.Machine.own self.old.head self.old.trail)) (D.may_leave self.old.disk)) (LeadsOn (InArea 0 (StandsWithOrWithout M.Machine.own self.old.head self.old.trail entry)) (D.may_leave self.old.disk)) }
-        ensures other_area { D.tells → other_of 0 (D.seen self.new.disk) ≡ other_of 0 (D.seen self.old.disk) }
+        ensures any_moment { D.tells → LeavesOnly D.moment D.left_since self.old.disk self.new.disk (LeadsOn (InArea self.old.area (StandsWithOrWithout M.Machine.own self.old.head self.old.trail entry)) (D.may_leave self.old.disk)) }
+        ensures first_two { D.tells → LeavesFirst D.moment D.left_since 2 self.old.disk self.new.disk (LeadsOn (InArea self.old.area (StandsWithout M.Machine.own self.old.head self.old.trail)) (D.may_leave self.old.disk)) (LeadsOn (InArea self.old.area (StandsWithOrWithout M.Machine.own self.old.head self.old.trail entry)) (D.may_leave self.old.disk)) }
+        ensures other_area { D.tells → other_of self.old.area (D.seen self.new.disk) ≡ other_of self.old.area (D.seen self.old.disk) }
         ensures memory { OnMemory result (Untouched D.Disk.own self.old.disk self.new.disk) }
         ensures calls { CommitCalls result (D.moment self.old.disk) (D.moment self.new.disk) }
         ensures doubt { OnDevice result (self.new.doubt ≡ doubt_after entry (D.moment self.new.disk - D.moment self.old.disk)) }

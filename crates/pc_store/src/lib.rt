@@ -2,7 +2,9 @@
 #![tactic(auto)]
 
 mod committing;
+mod current;
 mod fault;
+mod folding;
 mod making;
 mod reading;
 mod store;

@@ -1,18 +1,22 @@
 //! Making a store.
 
-ghost use Rattle.std.specs.Prelude.{◌≡◌, ◌⊎◌, ℕ, ◌+◌, ◌<◌, ◌≤◌, false, [], IfOk, IfErr, OnOk};
+ghost use Rattle.std.specs.Prelude.{◌≡◌, ◌⊎◌, ℕ, ◌+◌, ◌<◌, ◌≤◌, [], IfOk, IfErr, OnOk};
 ghost use Rattle.pc_base.specs.Stream.{Rose};
 ghost use Rattle.pc_disk.specs.Images.{area_of, with_area};
 ghost use Rattle.pc_disk.specs.Outcomes.{LeavesOnly, SameDue};
-ghost use Rattle.pc_log.specs.Area.{fresh, is_made};
+ghost use Rattle.pc_log.specs.Area.{fresh};
+ghost use Rattle.pc_store.specs.Current.{NoneMade};
 ghost use Rattle.pc_store.specs.Opening.{IsOutside, MakesWhereDue, MakingCalls, OnDevice, WhileMade};
 ghost use Rattle.pc_store.specs.Reading.{HoldsSettled};
 
-use crate::reading::{AREA, History, in_area, settle};
+use crate::reading::{History, in_area, settle};
 use pc_base::{Bytes, Machine, StoreFault};
 use pc_disk::Disk;
 use pc_log::Log;
 use std::alloc::Global;
+
+/// The area of a store that is made.
+const AREA: u8 = 0;
 
 /// The generation of a store that is made.
 const GENERATION: u64 = 1;
@@ -25,8 +29,8 @@ pub(crate) fn make<M: Machine, D: Disk>(
     alloc: Global,
     disk: &mut D,
 ) -> Result<History<M>, StoreFault>
-    requires { D.tells → is_made (area_of 0 (D.seen disk.old)) ≡ false }
-    ensures made { IfOk result (λ history. (history.generation ≡ 1) × (history.first ≡ 1) × (history.base ≡ M.saved M.begin) × (history.trail.items ≡ []) × (history.state ≡ M.numbered M.begin 1)) }
+    requires { D.tells → NoneMade (D.seen disk.old) }
+    ensures made { IfOk result (λ history. (history.log.area ≡ 0) × (history.generation ≡ 1) × (history.first ≡ 1) × (history.base ≡ M.saved M.begin) × (history.trail.items ≡ []) × (history.state ≡ M.numbered M.begin 1)) }
     ensures seen { D.tells → OnOk result (D.seen disk.new ≡ with_area 0 (fresh (record { kind = M.KIND; generation = 1; first = 1; base = M.saved M.begin })) (D.seen disk.old)) }
     ensures holds { IfOk result (HoldsSettled M.Machine.own D.tells D.seen D.may_leave disk.new) }
     ensures outside { IfErr result IsOutside }
@@ -54,7 +58,7 @@ pub(crate) fn make<M: Machine, D: Disk>(
     );
     let log = match made {
         Ok(log) => log,
-        Err(fault) => return Err(in_area(fault)),
+        Err(fault) => return Err(in_area(AREA, fault)),
     };
     Ok(History {
         log,

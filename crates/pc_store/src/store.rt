@@ -6,12 +6,13 @@ ghost use Rattle.pc_disk.specs.Alarm.{IsDue, unarmed};
 ghost use Rattle.pc_disk.specs.Images.{Images, area_of, other_of, with_area, InArea};
 ghost use Rattle.pc_disk.specs.Outcomes.{Only, LeavesOnly, SameDue};
 ghost use Rattle.pc_disk.specs.StepFaults.{LeadsOn};
-ghost use Rattle.pc_log.specs.Area.{Head, fresh, front, is_made};
+ghost use Rattle.pc_log.specs.Area.{Head, fresh, front};
 ghost use Rattle.pc_log.specs.Making.{OldUnmadeOrNew};
-ghost use Rattle.pc_store.specs.History.{IsReplay, StandsFor, written_of};
+ghost use Rattle.pc_store.specs.History.{IsReplay, written_of};
+ghost use Rattle.pc_store.specs.Current.{NoneMade, OpensIn};
 ghost use Rattle.pc_store.specs.Store.{Acknowledges, OpensInDoubt, SameHistory, next_number, room_of};
 ghost use Rattle.pc_store.specs.Reading.{HoldsSettled, head_of_history};
-ghost use Rattle.pc_store.specs.Opening.{DueOrTaken, FailsWhereDue, FirstFault, IsFaultOf, IsOutside, IfDevice, MakesWhereDue, MakingCalls, OnDevice, OnDisk, OpensAs, RefusesAs, SyncsOnce, WhileMade, answer_of};
+ghost use Rattle.pc_store.specs.Opening.{DueOrTaken, FailsWhereDue, FirstFaultIn, IsFaultOf, IsOutside, IfDevice, MakesWhereDue, MakingCalls, OnDevice, OnDisk, OpensAs, RefusesAs, SyncsOnce, WhileMade, answer_of};
 ghost use Rattle.pc_base.specs.declared.store_fault.StoreFault.TheVariants as store;
 
 use crate::fault::OpenFault;
@@ -29,6 +30,23 @@ pub(crate) const MOST_ENTRIES: u32 = 65_536;
 /// The most bytes that the entries of a trail have together.
 pub(crate) const MOST_BYTES: u32 = 16_777_216;
 
+/// The head of an area that has no entries.
+#[derive(Drop)]
+pub(crate) struct Renewal {
+    pub kind: u8,
+    pub generation: u64,
+    pub first: u64,
+    pub base: Bytes,
+}
+
+impl Model for Renewal {
+    ghost use Rattle.pc_log.specs.Area.{Head};
+
+    ghost Value = { Head };
+
+    ghost view = { λ r. record { kind = r.kind; generation = r.generation; first = r.first; base = r.base } };
+}
+
 /// A machine on a disk: the base, the entries since (the trail), and the state after them.
 #[derive(Drop)]
 pub struct Store<M: Machine, D: Disk + Drop> {
@@ -43,6 +61,8 @@ pub struct Store<M: Machine, D: Disk + Drop> {
     pub(crate) state: M,
     pub(crate) is_broken: bool,
     pub(crate) doubt: Option<M::Entry>,
+    // what a fold that failed may have left in the other area
+    pub(crate) renewal: Option<Renewal>,
 }
 
 impl<M: Machine, D: Disk + Drop> Model for Store<M, D> {
@@ -51,17 +71,17 @@ impl<M: Machine, D: Disk + Drop> Model for Store<M, D> {
 
     ghost Value = { StoreState M D M.Entry };
 
-    ghost view = { λ s. record { disk = s.disk; head = record { kind = M.KIND; generation = s.generation; first = s.first; base = s.base }; trail = s.trail.items; state = s.state; broken = s.is_broken; doubt = s.doubt } };
+    ghost view = { λ s. record { disk = s.disk; area = s.log.area; head = record { kind = M.KIND; generation = s.generation; first = s.first; base = s.base }; trail = s.trail.items; state = s.state; broken = s.is_broken; doubt = s.doubt; renewal = s.renewal } };
 
-    ghost invariant = { λ s. IsSound M.Machine D.tells D.seen D.may_leave (record { disk = s.disk; head = record { kind = M.KIND; generation = s.generation; first = s.first; base = s.base }; trail = s.trail.items; state = s.state; broken = s.is_broken; doubt = s.doubt }) s.log s.bytes };
+    ghost invariant = { λ s. IsSound M.Machine D.tells D.seen D.may_leave (record { disk = s.disk; area = s.log.area; head = record { kind = M.KIND; generation = s.generation; first = s.first; base = s.base }; trail = s.trail.items; state = s.state; broken = s.is_broken; doubt = s.doubt; renewal = s.renewal }) s.log s.bytes };
 }
 
 impl<M: Machine, D: Disk + Drop> Store<M, D> {
-    /// Makes a store of no history on a disk whose area 0 isn't made. The cause of a refusal is `Device` or
-    /// `Memory` alone.
+    /// Makes a store of no history on a disk of which neither area is made. The cause of a refusal is
+    /// `Device` or `Memory` alone.
     pub fn create(alloc: Global, disk: D) -> Result<Store<M, D>, OpenFault<D>>
-        requires { D.tells → is_made (area_of 0 (D.seen disk)) ≡ false }
-        ensures made { IfOk result (λ store. store ≡ record { disk = store.disk; head = record { kind = M.KIND; generation = 1; first = 1; base = M.saved M.begin }; trail = []; state = M.numbered M.begin 1; broken = false; doubt = None }) }
+        requires { D.tells → NoneMade (D.seen disk) }
+        ensures made { IfOk result (λ store. store ≡ record { disk = store.disk; area = 0; head = record { kind = M.KIND; generation = 1; first = 1; base = M.saved M.begin }; trail = []; state = M.numbered M.begin 1; broken = false; doubt = None; renewal = None }) }
         ensures acknowledged { D.tells → IfOk result (Acknowledges M.Machine.own D.seen D.may_leave) }
         ensures outside { IfErr result (λ fault. IsOutside fault.cause) }
         ensures cause { IfErr result (λ fault. IfDevice fault.cause (Rose (D.faults disk) (D.faults fault.disk))) }
@@ -92,18 +112,18 @@ impl<M: Machine, D: Disk + Drop> Store<M, D> {
 
     /// Opens the store that stands on a disk. It begins with a sync.
     pub fn open_store(alloc: Global, disk: D) -> Result<Store<M, D>, OpenFault<D>>
-        ensures found { D.tells → IfOk result (λ store. StandsFor M.Machine.own store.head store.trail (area_of 0 (D.seen disk))) }
+        ensures found { D.tells → IfOk result (λ store. OpensIn M.Machine.own store.area store.head store.trail (D.seen disk)) }
         ensures replay { IfOk result (λ store. IsReplay M.Machine.own store.head store.trail store.state) }
-        ensures fresh { IfOk result (λ store. (store.broken ≡ false) × (store.doubt ≡ None)) }
+        ensures fresh { IfOk result (λ store. (store.broken ≡ false) × (store.doubt ≡ None) × (store.renewal ≡ None)) }
         ensures acknowledged { D.tells → IfOk result (Acknowledges M.Machine.own D.seen D.may_leave) }
 
         // What stands is found.
-        ensures only { D.tells → (head : Head) (trail : List M.Entry) → StandsFor M.Machine.own head trail (area_of 0 (D.seen disk)) → OpensAs head trail result }
+        ensures only { D.tells → (index : ℕ) (head : Head) (trail : List M.Entry) → OpensIn M.Machine.own index head trail (D.seen disk) → OpensAs index head trail result }
 
         // A fault is the first, and what isn't made or has a fault isn't opened.
-        ensures fault { D.tells → IfErr result (λ fault. IsFaultOf M.Machine.own (area_of 0 (D.seen disk)) fault.cause) }
-        ensures unmade { D.tells → is_made (area_of 0 (D.seen disk)) ≡ false → RefusesAs (answer_of result) store.NotMade }
-        ensures first { D.tells → (place : ℕ) → FirstFault M.Machine.own (area_of 0 (D.seen disk)) place → RefusesAs (answer_of result) (store.Malformed 0 place) }
+        ensures fault { D.tells → IfErr result (λ fault. IsFaultOf M.Machine.own (D.seen disk) fault.cause) }
+        ensures unmade { D.tells → NoneMade (D.seen disk) → RefusesAs (answer_of result) store.NotMade }
+        ensures first { D.tells → (index place : ℕ) → FirstFaultIn M.Machine.own (D.seen disk) index place → RefusesAs (answer_of result) (store.Malformed index place) }
         ensures cause { IfErr result (λ fault. IfDevice fault.cause (Rose (D.faults disk) (D.faults fault.disk))) }
         ensures faults { OnDisk result (λ now. D.faults disk ≤ D.faults now) }
 
@@ -112,9 +132,9 @@ impl<M: Machine, D: Disk + Drop> Store<M, D> {
         ensures due { D.tells_due → FailsWhereDue (answer_of result) (D.due disk (D.moment disk)) (DueOrTaken (D.due disk) (D.moment disk + 1) (D.taken disk) (2 ^ 31)) }
         ensures ahead { D.tells_due → OnDisk result (λ now. SameDue (D.moment now) (D.due disk) (D.due now)) }
 
-        // It reads little more than the base and the entries; and where it is refused no more than the longest
+        // It reads little more than the base and the entries of the area that counts; and where it is refused no more than the longest
         // area has.
-        ensures taken { IfOk result (λ store. D.taken store.disk ≤ D.taken disk + length (front store.head (written_of M.Machine.own store.trail)) + 5) }
+        ensures taken { IfOk result (λ store. D.taken store.disk ≤ D.taken disk + length (front store.head (written_of M.Machine.own store.trail)) + 65) }
         ensures most_taken { OnDisk result (λ now. D.taken now ≤ D.taken disk + 2 ^ 31) }
 
         // The disk reads as before, and a crash at any moment leaves what it might have left.
@@ -131,7 +151,7 @@ impl<M: Machine, D: Disk + Drop> Store<M, D> {
 
     /// Reads all again, after a sync, and ends being broken. After `Err` all is as before.
     pub fn reopen(&mut self, alloc: Global) -> Result<(), StoreFault>
-        ensures mended { OnOk result ((self.new.broken ≡ false) × (self.new.doubt ≡ None)) }
+        ensures mended { OnOk result ((self.new.broken ≡ false) × (self.new.doubt ≡ None) × (self.new.renewal ≡ None)) }
         ensures same { D.tells → OnOk result (SameHistory self.old self.new) }
         ensures replay { OnOk result (IsReplay M.Machine.own self.new.head self.new.trail self.new.state) }
         ensures acknowledged { D.tells → OnOk result (Acknowledges M.Machine.own D.seen D.may_leave self.new) }
@@ -145,9 +165,9 @@ impl<M: Machine, D: Disk + Drop> Store<M, D> {
         ensures due { D.tells_due → FailsWhereDue result (D.due self.old.disk (D.moment self.old.disk)) (DueOrTaken (D.due self.old.disk) (D.moment self.old.disk + 1) (D.taken self.old.disk) (2 ^ 31)) }
         ensures ahead { D.tells_due → SameDue (D.moment self.new.disk) (D.due self.old.disk) (D.due self.new.disk) }
 
-        // It reads little more than the base and the entries; and where it is refused no more than the longest
+        // It reads little more than the base and the entries of the area that counts; and where it is refused no more than the longest
         // area has.
-        ensures taken { OnOk result (D.taken self.new.disk ≤ D.taken self.old.disk + length (front self.new.head (written_of M.Machine.own self.new.trail)) + 5) }
+        ensures taken { OnOk result (D.taken self.new.disk ≤ D.taken self.old.disk + length (front self.new.head (written_of M.Machine.own self.new.trail)) + 65) }
         ensures most_taken { D.taken self.new.disk ≤ D.taken self.old.disk + 2 ^ 31 }
 
         // The disk reads as before, and a crash at any moment leaves what it might have left.
@@ -164,6 +184,7 @@ impl<M: Machine, D: Disk + Drop> Store<M, D> {
         self.state = history.state;
         self.is_broken = false;
         self.doubt = None;
+        self.renewal = None;
         Ok(())
     }
 
@@ -176,7 +197,7 @@ impl<M: Machine, D: Disk + Drop> Store<M, D> {
         self.doubt.as_ref()
     }
 
-    /// Whether a commit failed since the store was opened, so that it is to be opened again.
+    /// Whether a commit or a fold failed since the store was opened, so that it is to be opened again.
     pub fn is_broken(&self) -> bool
         ensures { result ≡ self.now.broken }
     {
@@ -230,8 +251,8 @@ impl<M: Machine, D: Disk + Drop> Store<M, D> {
     pub fn into_disk(self) -> D
         ensures disk { result ≡ self.disk }
 
-        // A crash now leaves the history, with the entry in doubt or without it.
-        ensures leaves { D.tells → (left : Images) → D.may_leave result left → OpensInDoubt M.Machine.own self.head self.trail self.doubt left }
+        // A crash now leaves the history, with the entry in doubt or without it; or the head in doubt.
+        ensures leaves { D.tells → (left : Images) → D.may_leave result left → OpensInDoubt M.Machine.own self left }
     {
         let Store {
             disk,
@@ -244,6 +265,7 @@ impl<M: Machine, D: Disk + Drop> Store<M, D> {
             state: _,
             is_broken: _,
             doubt: _,
+            renewal: _,
         } = self;
         disk
     }
@@ -251,7 +273,7 @@ impl<M: Machine, D: Disk + Drop> Store<M, D> {
     // The store of a history that was read or made on this disk.
     fn of(disk: D, history: History<M>) -> Store<M, D>
         requires { HoldsSettled M.Machine.own D.tells D.seen D.may_leave disk history }
-        ensures { result ≡ record { disk = disk; head = head_of_history M.Machine.own history; trail = history.trail.items; state = history.state; broken = false; doubt = None } }
+        ensures { result ≡ record { disk = disk; area = history.log.area; head = head_of_history M.Machine.own history; trail = history.trail.items; state = history.state; broken = false; doubt = None; renewal = None } }
     {
         let History {
             log,
@@ -273,6 +295,7 @@ impl<M: Machine, D: Disk + Drop> Store<M, D> {
             state,
             is_broken: false,
             doubt: None,
+            renewal: None,
         }
     }
 }

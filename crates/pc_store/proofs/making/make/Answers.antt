@@ -1,10 +1,11 @@
-use Rattle.std.proofs.Common.{◌≡◌, ℕ, ◌+◌, ◌≤◌, ◌++◌, List, [], length, refl, sym, ap, ◌∙◌, subst, arith}
+use Rattle.std.proofs.Common.{◌≡◌, ℕ, ◌+◌, ◌<◌, ◌≤◌, ◌++◌, false, List, [], length, refl, sym, ap, ◌∙◌, subst, arith, inl}
 use Rattle.std.proofs.lemmas.Result.{err_from_is_err_and}
-use Rattle.pc_disk.specs.Images.{Images, area_of, with_area}
+use Rattle.pc_disk.specs.Images.{Images, area_of, other_of, with_area}
 use Rattle.pc_disk.specs.Outcomes.{SameDue}
-use Rattle.pc_log.specs.Area.{Spelled, fresh}
+use Rattle.pc_log.specs.Area.{Spelled, fresh, is_made}
 use Rattle.pc_log.specs.Making.{clear_calls}
 use Rattle.pc_log.specs.Logs.{LogState}
+use Rattle.pc_store.specs.Current.{IsOlder}
 use Rattle.pc_store.proofs.MadeLemmas.{numbered_from, made_holds}
 use Rattle.pc_store.proofs.DueLemmas.{same_due_again}
 use Rattle.pc_store.proofs.MakingLemmas.{making_due, none_more, sync_calls, sync_due}
@@ -20,16 +21,24 @@ returns-clause-holds g c =
     let saved = laws.numbered_saved machine.begin 1 in
     let short : length (machine.saved machine.begin) ≤ 1073741824 = omega (arith, laws.record_size (machine.numbered machine.begin 1) legal, ap length saved) in
     let base : c.save.new.out ≡ machine.saved machine.begin = c.in_ok-save.ensures ∙ ap (λ (xs : List ℕ). xs ++ machine.saved c.number_from.new.self) c.new-base.ensures ∙ ap machine.saved state ∙ saved in
-    let log : c.in-Ok.log ≡ record { area = 0; gate = 30 + length c.save.new.out } = c.in-Ok.ensures.log ∙ ap (λ (xs : List ℕ). record { area = 0; gate = 30 + length xs }) c.as_slice.ensures in
+    let zeroth : c.in-Ok.log.area ≡ 0 = ap (λ (l : LogState). l.area) c.in-Ok.ensures.log in
+    let gate : c.in-Ok.log.gate ≡ 30 + length c.save.new.out = ap (λ (l : LogState). l.gate) c.in-Ok.ensures.log ∙ ap (λ (xs : List ℕ). 30 + length xs) c.as_slice.ensures in
+    let now = g.D.Disk.seen c.create-made.new.disk in
+    let history = record { log = c.in-Ok.log; generation = 1; first = 1; base = c.save.new.out; trail = c.new.result; bytes = 0; state = c.number_from.new.self } in
     let spelled = λ (told : g.D.Disk.tells).
     let made = (c.in-Ok.ensures.stands told).reads.spelled in
-    let one = subst (λ (k : ℕ). Spelled (record { kind = c.KIND.result; generation = 1; first = 1; base = c.as_slice.result.now }) [] (area_of k (g.D.Disk.seen c.create-made.new.disk))) (ap (λ (l : LogState). l.area) c.in-Ok.ensures.log) made in
-    let two = subst (λ (k : ℕ). Spelled (record { kind = k; generation = 1; first = 1; base = c.as_slice.result.now }) [] (area_of 0 (g.D.Disk.seen c.create-made.new.disk))) c.KIND.ensures one in
-    subst (λ (xs : List ℕ). Spelled (record { kind = machine.KIND; generation = 1; first = 1; base = xs }) [] (area_of 0 (g.D.Disk.seen c.create-made.new.disk))) c.as_slice.ensures two in
+    let two = subst (λ (k : ℕ). Spelled (record { kind = k; generation = 1; first = 1; base = c.as_slice.result.now }) [] (area_of c.in-Ok.log.area now)) c.KIND.ensures made in
+    subst (λ (xs : List ℕ). Spelled (record { kind = machine.KIND; generation = 1; first = 1; base = xs }) [] (area_of c.in-Ok.log.area now)) c.as_slice.ensures two in
+    let unmade = λ (told : g.D.Disk.tells).
+    let there = ap (λ (i : Images). other_of 0 i) (c.in-Ok.ensures.made told) ∙ ap (λ (i : Images). other_of 0 i) (c.settle.ensures.seen told) in
+    let not : is_made (other_of 0 now) ≡ false = ap is_made there ∙ (c.requires told).1 in
+    subst (λ (k : ℕ). IsOlder machine.KIND 1 (other_of k now)) (sym zeroth) (inl not) in
     record {
-      holds = made_holds machine g.D.Disk.tells (area_of 0 (g.D.Disk.seen c.create-made.new.disk))
-          (record { log = c.in-Ok.log; generation = 1; first = 1; base = c.save.new.out; trail = c.new.result; bytes = 0; state = c.number_from.new.self })
-          laws.kinds laws.begin_is_canonical suits short refl refl base c.new.ensures.items refl state log spelled;
+      holds = record {
+        within = omega (arith, zeroth);
+        holds = made_holds machine g.D.Disk.tells (area_of c.in-Ok.log.area now) history laws.kinds laws.begin_is_canonical suits short refl refl base c.new.ensures.items refl state gate spelled;
+        older = unmade;
+      };
       settled = c.in-Ok.ensures.settled;
     }
 
@@ -70,7 +79,7 @@ pub returns-in-Err-clause-due : goal.returns-in-Err-clause-due
 returns-in-Err-clause-due g c told =
     let old = c.args.disk.now in
     let mid = c.settle.new.disk in
-    making_due ℕ ℕ c.in-Err.fault c.in_area.result (g.D.Disk.moment old) (g.D.Disk.moment mid) (g.D.Disk.moment c.create-made.new.disk) (g.D.Disk.due old) (g.D.Disk.due mid) (g.D.Disk.taken old) (g.D.Disk.taken mid)
+    making_due ℕ ℕ 0 c.in-Err.fault c.in_area.result (g.D.Disk.moment old) (g.D.Disk.moment mid) (g.D.Disk.moment c.create-made.new.disk) (g.D.Disk.due old) (g.D.Disk.due mid) (g.D.Disk.taken old) (g.D.Disk.taken mid)
     c.in_area.ensures c.in_ok-settle.ensures.calls c.settle.ensures.taken (c.in_ok-settle.ensures.due told) (c.settle.ensures.ahead told) (c.in-Err.ensures.due told)
 
 pub returns-in_err-settle-clause-due : goal.returns-in_err-settle-clause-due

@@ -9,10 +9,10 @@ use Rattle.pc_store.proofs.reading.read_entries.Goals as goal
 
 pub returns-in_err-entry-clause-entries : goal.returns-in_err-entry-clause-entries
 returns-in_err-entry-clause-entries g c =
-    let area = area_of 0 (g.D.Disk.seen c.args.disk.now) in
+    let area = area_of c.args.area (g.D.Disk.seen c.args.disk.now) in
     let mid = c.loop-trail in
-    let same = λ (told : g.D.Disk.tells). ap (area_of 0) (c.loop-trail.invariant.untouched.still told).seen in
-    let next = next_in g.M.Machine g.D.Disk.tells area (area_of 0 (g.D.Disk.seen c.loop-trail.disk)) c.loop-trail.opening c.next_entry.new.opening c.loop-trail.state c.next_entry.new.state c.loop-trail.number (Err c.in_err-entry.field-0.0) same c.in_err-entry.ensures.next in
+    let same = λ (told : g.D.Disk.tells). ap (area_of c.args.area) (c.loop-trail.invariant.untouched.still told).seen in
+    let next = next_in g.M.Machine g.D.Disk.tells area (area_of c.args.area (g.D.Disk.seen c.loop-trail.disk)) c.loop-trail.opening c.next_entry.new.opening c.loop-trail.state c.next_entry.new.state c.loop-trail.number (Err c.in_err-entry.field-0.0) same c.in_err-entry.ensures.next in
     let p = err_from_is_err_and c.from_residual.result c.from_residual.ensures.1 in
     rw (p.1, p.2) (entries_refused g.M.Machine g.D.Disk.tells area c.args.opening.now c.loop-trail.opening c.next_entry.new.opening c.args.state.now c.loop-trail.state c.next_entry.new.state c.args.first c.loop-trail.gate c.loop-trail.number c.loop-trail.bytes c.loop-trail.trail.items c.in_err-entry.field-0.0 c.loop-trail.invariant.reading next)
 
@@ -29,9 +29,9 @@ returns-in_err-entry-clause-due g c told =
 
 pub loop-trail-preserved : goal.loop-trail-preserved
 loop-trail-preserved g c =
-    let area = area_of 0 (g.D.Disk.seen c.args.disk.now) in
-    let same = λ (told : g.D.Disk.tells). ap (area_of 0) (c.loop-trail.invariant.untouched.still told).seen in
-    let next = next_in g.M.Machine g.D.Disk.tells area (area_of 0 (g.D.Disk.seen c.loop-trail.disk)) c.loop-trail.opening c.next_entry.new.opening c.loop-trail.state c.next_entry.new.state c.loop-trail.number (Ok c.in_ok-entry.field-0) same c.in_ok-entry.ensures.next in
+    let area = area_of c.args.area (g.D.Disk.seen c.args.disk.now) in
+    let same = λ (told : g.D.Disk.tells). ap (area_of c.args.area) (c.loop-trail.invariant.untouched.still told).seen in
+    let next = next_in g.M.Machine g.D.Disk.tells area (area_of c.args.area (g.D.Disk.seen c.loop-trail.disk)) c.loop-trail.opening c.next_entry.new.opening c.loop-trail.state c.next_entry.new.state c.loop-trail.number (Ok c.in_ok-entry.field-0) same c.in_ok-entry.ensures.next in
     let more = subst (λ (n : Option (ReadEntry _)). IfSome n (λ _. g.D.Disk.taken c.next_entry.new.disk + c.loop-trail.opening.reached.gate ≤ g.D.Disk.taken c.loop-trail.disk + c.next_entry.new.opening.reached.gate)) c.in-Some.is c.in_ok-entry.ensures.taken in
     record {
       reading = reading_more g.M.Machine g.D.Disk.tells area c.args.opening.now c.loop-trail.opening c.next_entry.new.opening c.args.state.now c.loop-trail.state c.next_entry.new.state c.args.first c.loop-trail.gate c.loop-trail.number c.loop-trail.bytes c.in-Some.field-0.size c.from.result c.loop-trail.trail.items c.push.new.self.items c.in_ok-entry.field-0 c.in-Some.field-0

@@ -6,7 +6,7 @@ use Rattle.pc_store.proofs.reading.read_entries.Given as goal
 
 abbrev pub invariant-loop-trail : goal.invariant-loop-trail
 invariant-loop-trail g l = record {
-  reading : IsReading g.M.Machine g.D.Disk.tells (area_of 0 (g.D.Disk.seen l.initial.disk)) l.initial.opening l.opening l.initial.state l.state l.fn.first l.trail.items l.gate l.number l.bytes;
+  reading : IsReading g.M.Machine g.D.Disk.tells (area_of l.fn.area (g.D.Disk.seen l.initial.disk)) l.initial.opening l.opening l.initial.state l.state l.fn.first l.trail.items l.gate l.number l.bytes;
   untouched : Untouched g.D.Disk l.initial.disk l.disk;
   taken : g.D.Disk.taken l.disk + l.initial.opening.reached.gate ≤ g.D.Disk.taken l.initial.disk + l.opening.reached.gate;
 }

@@ -1,20 +1,20 @@
 use Rattle.std.proofs.Common.{◌≡◌, ◌∙◌, ℕ, ◌+◌, ◌^◌, ◌≤◌, List, length, sym, ap, subst, arith}
-use Rattle.pc_disk.specs.Images.{area_of}
+use Rattle.pc_disk.specs.Images.{Images}
 use Rattle.pc_disk.specs.Outcomes.{LeavesOnly, SameDue}
 use Rattle.pc_log.specs.Area.{front}
-use Rattle.pc_log.specs.Logs.{LogState}
-use Rattle.pc_store.specs.History.{IsReplay, StandsFor, written_of}
+use Rattle.pc_store.specs.History.{IsReplay, written_of}
+use Rattle.pc_store.specs.Current.{OpensIn}
 use Rattle.pc_store.specs.Reading.{head_of_history}
 use Rattle.pc_store.specs.Store.{Acknowledges, StoreState}
-use Rattle.pc_store.proofs.OpenedLemmas.{held_acknowledged, held_stands}
+use Rattle.pc_store.proofs.OpenedLemmas.{held_acknowledged, held_opens}
 use Rattle.pc_store.proofs.store.Store.open_store.Goals as goal
 
 pub returns-clause-found : goal.returns-clause-found
 returns-clause-found g c told =
     let machine = g.M.Machine in
-    let held = held_stands machine g.D.Disk.tells (area_of 0 (g.D.Disk.seen c.read_settled.new.disk)) c.in-Ok.history told c.in-Ok.ensures.found.holds in
-    let there = subst (λ (a : List ℕ). StandsFor machine (head_of_history machine c.in-Ok.history) c.in-Ok.history.trail.items a) (ap (area_of 0) (c.read_settled.ensures.seen told)) held in
-    subst (λ (s : StoreState _ _ _). StandsFor machine s.head s.trail (area_of 0 (g.D.Disk.seen c.args.disk))) (sym c.of.ensures) there
+    let held = held_opens machine g.D.Disk.tells (g.D.Disk.seen c.read_settled.new.disk) c.in-Ok.history told c.in-Ok.ensures.found.holds in
+    let there = subst (λ (i : Images). OpensIn machine c.in-Ok.history.log.area (head_of_history machine c.in-Ok.history) c.in-Ok.history.trail.items i) (c.read_settled.ensures.seen told) held in
+    subst (λ (s : StoreState _ _ _). OpensIn machine s.area s.head s.trail (g.D.Disk.seen c.args.disk)) (sym c.of.ensures) there
 
 pub returns-clause-replay : goal.returns-clause-replay
 returns-clause-replay g c = subst (λ (s : StoreState _ _ _). IsReplay g.M.Machine s.head s.trail s.state) (sym c.of.ensures) c.in-Ok.ensures.replay
@@ -25,10 +25,11 @@ returns-clause-acknowledged g c told =
     (held_acknowledged g.M.Machine g.D.Disk.tells g.D.Disk.seen g.D.Disk.may_leave c.read_settled.new.disk c.in-Ok.history told c.in-Ok.ensures.found)
 
 pub returns-clause-only : goal.returns-clause-only
-returns-clause-only g c told head trail stands =
-    let found = c.in-Ok.ensures.only told head trail stands in (
-      ap (λ (s : StoreState _ _ _). s.head) c.of.ensures ∙ found.0,
-      ap (λ (s : StoreState _ _ _). s.trail) c.of.ensures ∙ found.1,
+returns-clause-only g c told index head trail opens =
+    let found = c.in-Ok.ensures.only told index head trail opens in (
+      ap (λ (s : StoreState _ _ _). s.area) c.of.ensures ∙ found.0,
+      ap (λ (s : StoreState _ _ _). s.head) c.of.ensures ∙ found.1,
+      ap (λ (s : StoreState _ _ _). s.trail) c.of.ensures ∙ found.2,
     )
 
 pub returns-clause-faults : goal.returns-clause-faults
@@ -51,9 +52,9 @@ returns-clause-ahead g c told =
 pub returns-clause-taken : goal.returns-clause-taken
 returns-clause-taken g c =
     let head = head_of_history g.M.Machine c.in-Ok.history in
-    let gate : c.in-Ok.history.log.gate ≡ length (front head (written_of g.M.Machine c.in-Ok.history.trail.items)) = ap (λ (l : LogState). l.gate) c.in-Ok.ensures.found.holds.log_is in
-    let most : g.D.Disk.taken c.read_settled.new.disk ≤ g.D.Disk.taken c.args.disk + length (front head (written_of g.M.Machine c.in-Ok.history.trail.items)) + 5 = omega (arith, gate, c.in-Ok.ensures.taken) in
-    subst (λ (s : StoreState _ _ _). g.D.Disk.taken s.disk ≤ g.D.Disk.taken c.args.disk + length (front s.head (written_of g.M.Machine s.trail)) + 5) (sym c.of.ensures) most
+    let gate : c.in-Ok.history.log.gate ≡ length (front head (written_of g.M.Machine c.in-Ok.history.trail.items)) = c.in-Ok.ensures.found.holds.holds.gate in
+    let most : g.D.Disk.taken c.read_settled.new.disk ≤ g.D.Disk.taken c.args.disk + length (front head (written_of g.M.Machine c.in-Ok.history.trail.items)) + 65 = omega (arith, gate, c.in-Ok.ensures.taken) in
+    subst (λ (s : StoreState _ _ _). g.D.Disk.taken s.disk ≤ g.D.Disk.taken c.args.disk + length (front s.head (written_of g.M.Machine s.trail)) + 65) (sym c.of.ensures) most
 
 pub returns-clause-most_taken : goal.returns-clause-most_taken
 returns-clause-most_taken g c =
