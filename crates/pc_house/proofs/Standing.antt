@@ -62,14 +62,15 @@ module _ {D : Type 0} where
       (subst (λ (s : State). StandsFor s (start told.base.held store.head.first ▸▸ store.trail)) (sym told.leads) there)
 
   -- a store that isn't broken, as it was opened
-  pub replay_kept : (store : StoreState State D Entry) (found : BaseOf store.head.base) → IsReplay machine store.head store.trail store.state → store.doubt ≡ None → IsKept (base_of found) store
-  replay_kept store found replay none =
+  pub replay_kept : (store : StoreState State D Entry) (found : BaseOf store.head.base) → IsReplay machine store.head store.trail store.state → store.doubt ≡ None → store.renewal ≡ None → IsKept (base_of found) store
+  replay_kept store found replay none no_renewal =
       let stands = replay_stands store found replay in
       record {
         legal = stands.legal;
         fits = fit_all (numbered replay.history.base store.head.first) store.trail replay.history.allowed;
         stands = λ whole. stands;
         no_doubt = λ whole. none;
+        no_renewal = no_renewal;
       }
 
   -- what the base was stays true of another disk, another state and another doubt, where the store is broken then
@@ -79,13 +80,14 @@ module _ {D : Type 0} where
     fits = subst (λ (s : StoreState State D Entry). Every Fits s.trail) (sym e) kept.fits;
     stands = λ whole. absurd (true≢false (sym broken ∙ whole));
     no_doubt = λ whole. absurd (true≢false (sym broken ∙ whole));
+    no_renewal = ap (λ (s : StoreState State D Entry). s.renewal) e ∙ kept.no_renewal;
   }
 
   made_kept : (base : AccountRecord) (old new : StoreState State D Entry) (entry : Entry) → IsKept base old → old.broken ≡ false → accepts old.state entry ≡ true → ◌≡◌ {A = StoreState State D Entry} new (record old { disk = new.disk; trail = old.trail ++ entry ∷ []; state = step old.state entry }) → IsKept base new
   made_kept base old new entry kept whole accepted e =
       let stands = subst (StandsFor (step old.state entry)) (sym (▸▸-push (start base old.head.first) old.trail entry)) (step_stands old.state entry (history_of base old) accepted (kept.stands whole)) in
       let fits = fit_more old.trail entry kept.fits (accepts-parts old.state entry accepted).1 in
-      let then : IsKept base (record old { disk = new.disk; trail = old.trail ++ entry ∷ []; state = step old.state entry }) = record { legal = stands.legal; fits = fits; stands = λ _. stands; no_doubt = kept.no_doubt } in
+      let then : IsKept base (record old { disk = new.disk; trail = old.trail ++ entry ∷ []; state = step old.state entry }) = record { legal = stands.legal; fits = fits; stands = λ _. stands; no_doubt = kept.no_doubt; no_renewal = kept.no_renewal } in
       subst (IsKept base) (sym e) then
 
   still_kept : (base : AccountRecord) (old new : StoreState State D Entry) → IsKept base old → old.broken ≡ false → old.doubt ≡ new.doubt → ◌≡◌ {A = StoreState State D Entry} new (record old { disk = new.disk; state = new.state; broken = new.broken }) → (new.broken ≡ false → new.state ≡ old.state) → IsKept base new
@@ -94,6 +96,7 @@ module _ {D : Type 0} where
     fits = subst (λ (s : StoreState State D Entry). Every Fits s.trail) (sym e) kept.fits;
     stands = λ still. subst (λ (s : StoreState State D Entry). StandsFor new.state (history_of base s)) (sym e) (subst (λ (s : State). StandsFor s (history_of base old)) (sym (same still)) (kept.stands whole));
     no_doubt = λ still. sym doubt ∙ kept.no_doubt whole;
+    no_renewal = ap (λ (s : StoreState State D Entry). s.renewal) e ∙ kept.no_renewal;
   }
 
   -- a commit keeps it
@@ -115,7 +118,7 @@ module _ {D : Type 0} where
   -- a change of the disk alone keeps it
   pub disk_kept : (base : AccountRecord) (old new : StoreState State D Entry) → IsKept base old → ◌≡◌ {A = StoreState State D Entry} new (record old { disk = new.disk }) → IsKept base new
   disk_kept base old new kept e =
-      let then : IsKept base (record old { disk = new.disk }) = record { legal = kept.legal; fits = kept.fits; stands = kept.stands; no_doubt = kept.no_doubt } in
+      let then : IsKept base (record old { disk = new.disk }) = record { legal = kept.legal; fits = kept.fits; stands = kept.stands; no_doubt = kept.no_doubt; no_renewal = kept.no_renewal } in
       subst (IsKept base) (sym e) then
 
 module _ {D : Type 0} (user : List ℕ) (old new : StoreState State D Entry) (found : BaseOf old.head.base) (found' : BaseOf new.head.base) (drawn : ℕ) (sessions sessions' : List (List ℕ × Latest)) where
@@ -135,8 +138,8 @@ module _ {D : Type 0} (user : List ℕ) (old new : StoreState State D Entry) (fo
   shut_desk is e = kept_desk (ap (λ (s : StoreState State D Entry). s.head) e) (disk_kept (base_of found) old new is.kept e) is.drawn
 
   -- and where it was
-  pub opened_desk : IsDesk (desk_of user old found drawn sessions) → IsReplay machine new.head new.trail new.state → new.doubt ≡ None → IsDesk (desk_of user new found' drawn sessions')
-  opened_desk is replay none = record { kept = replay_kept new found' replay none; drawn = is.drawn }
+  pub opened_desk : IsDesk (desk_of user old found drawn sessions) → IsReplay machine new.head new.trail new.state → (new.doubt ≡ None) × (new.renewal ≡ None) → IsDesk (desk_of user new found' drawn sessions')
+  opened_desk is replay none = record { kept = replay_kept new found' replay none.0 none.1; drawn = is.drawn }
 
 -- a desk with other sessions
 pub other_sessions : {D : Type 0} (user : List ℕ) (store : StoreState State D Entry) (found found' : BaseOf store.head.base) (drawn drawn' : ℕ) (sessions sessions' : List (List ℕ × Latest)) → IsDesk (desk_of user store found drawn sessions) → drawn' ≤ LAST_SESSION → IsDesk (desk_of user store found' drawn' sessions')

@@ -59,6 +59,7 @@ pub record IsKept {D : Type 0} (base : AccountRecord) (store : StoreState State 
   pub fits : AllByRecursion Fits store.trail
   pub stands : store.broken ≡ false → StandsFor store.state (history_of base store)
   pub no_doubt : store.broken ≡ false → store.doubt ≡ None
+  pub no_renewal : store.renewal ≡ None
 
 -- and of a desk
 pub record IsDesk {D : Type 0} (desk : DeskValue D) : Type 0 where

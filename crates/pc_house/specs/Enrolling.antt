@@ -28,7 +28,7 @@ abbrev pub new_desk : {D : Type 0} → List ℕ → D → DeskValue D
 new_desk user disk = record {
   user = user;
   base = empty_record;
-  store = record { disk = disk; head = record { kind = 1; generation = 1; first = 1; base = spelled_record empty_record }; trail = []; state = new_state; broken = false; doubt = None };
+  store = record { disk = disk; area = 0; head = record { kind = 1; generation = 1; first = 1; base = spelled_record empty_record }; trail = []; state = new_state; broken = false; doubt = None; renewal = None };
   drawn = 0;
   sessions = [];
 }

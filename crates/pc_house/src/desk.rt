@@ -73,7 +73,7 @@ impl<D: Disk + Drop> Desk<D> {
         ensures disk { result ≡ self.store.disk }
 
         // A crash now leaves the history, with the entry in doubt or without it.
-        ensures leaves { D.tells → (left : Images) → D.may_leave result left → OpensInDoubt ⟦<Account as Machine>⟧ self.store.head self.store.trail self.store.doubt left }
+        ensures leaves { D.tells → (left : Images) → D.may_leave result left → OpensInDoubt ⟦<Account as Machine>⟧ self.store left }
     {
         let Desk {
             user: _,

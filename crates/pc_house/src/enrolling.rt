@@ -4,11 +4,10 @@ ghost use Rattle.std.specs.Prelude.{◌≡◌, ◌+◌, ◌^◌, ◌<◌, ◌≤
 ghost use Rattle.pc_base.specs.Stream.{Rose};
 ghost use Rattle.pc_base.specs.Name.{inbox};
 ghost use Rattle.pc_base.specs.CommitFault.{OnDevice};
-ghost use Rattle.pc_disk.specs.Images.{area_of};
-ghost use Rattle.pc_log.specs.Area.{is_made};
 ghost use Rattle.pc_account_history.specs.History.{known};
 ghost use Rattle.pc_account_history.specs.Known.{Known};
 ghost use Rattle.pc_account.specs.Plan.{IsAtOnce, IsWish, planned};
+ghost use Rattle.pc_store.specs.Current.{NoneMade};
 ghost use Rattle.pc_store.specs.Opening.{IfDevice, IsOutside};
 ghost use Rattle.pc_session.specs.Desk.{Are};
 ghost use Rattle.pc_house.specs.Desk.{DeskFails, FailsAhead, told_by};
@@ -24,10 +23,10 @@ use pc_store::{OpenFault, Store};
 use std::alloc::Global;
 
 impl<D: Disk + Drop> Desk<D> {
-    /// Makes the store of a new account on a disk whose area 0 isn't made, and the user's desk over it. The cause of a
-    /// refusal is `Device` or `Memory` alone.
+    /// Makes the store of a new account on a disk of which neither area is made, and the user's desk over it. The cause
+    /// of a refusal is `Device` or `Memory` alone.
     pub fn make(alloc: Global, user: Name, disk: D) -> Result<Desk<D>, OpenFault<D>>
-        requires { D.tells → is_made (area_of 0 (D.seen disk)) ≡ false }
+        requires { D.tells → NoneMade (D.seen disk) }
         ensures made { IfOk result (λ desk. desk ≡ new_desk user desk.store.disk) }
         ensures outside { IfErr result (λ fault. IsOutside fault.cause) }
         ensures cause { IfErr result (λ fault. IfDevice fault.cause (Rose (D.faults disk) (D.faults fault.disk))) }

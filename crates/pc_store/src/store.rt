@@ -193,6 +193,7 @@ impl<M: Machine, D: Disk + Drop> Store<M, D> {
     pub fn doubt(&self) -> Option<&M::Entry>
         ensures value { MatchOption result (self.now.doubt ≡ None) (λ entry. self.now.doubt ≡ Some entry.now) }
         ensures none { self.now.broken ≡ false → self.now.doubt ≡ None }
+        ensures no_renewal { self.now.broken ≡ false → self.now.renewal ≡ None }
     {
         self.doubt.as_ref()
     }

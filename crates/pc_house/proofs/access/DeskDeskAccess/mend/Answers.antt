@@ -35,4 +35,4 @@ returns-clause-opens g c =
     let gone : c.only_if_longer-gone.result ≡ dropped_if (nat_lt (length inside.store.trail) (length c.reopen.new.self.trail)) (option_and_then dropped_by inside.store.doubt) =
     c.only_if_longer-gone.ensures ∙ (λ i. dropped_if (nat_lt (length (c.trail-count.ensures i)) (length c.reopen.new.self.trail)) (c.dropped_in_doubt-dropped.ensures i)) in
     let are = subst (λ (o : Option (List ℕ)). Are (latest_in c.forget.new.self) (latest_but o (latest_in inside.sessions))) gone c.forget.ensures in
-    desk_opens g.D.Disk.faults g.D.Disk.tells inside.user inside.store c.reopen.new.self inside.base _ inside.drawn inside.sessions c.forget.new.self c.args.self.now c.self.view_is c.in_ok-reopen.ensures.same c.in_ok-reopen.ensures.mended are
+    desk_opens g.D.Disk.faults g.D.Disk.tells inside.user inside.store c.reopen.new.self inside.base _ inside.drawn inside.sessions c.forget.new.self c.args.self.now c.self.view_is c.self.invariant.kept.no_renewal c.in_ok-reopen.ensures.same c.in_ok-reopen.ensures.mended are

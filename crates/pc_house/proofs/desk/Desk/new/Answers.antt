@@ -10,7 +10,7 @@ invariant_of-result g c =
     (record { base = replay.history.base.held; is_saved = ∣ replay_saved c.args.store replay ∣₁ }, tt)
 
 pub invariant_of-result-2 : goal.invariant_of-result-2
-invariant_of-result-2 g c = record { kept = replay_kept c.args.store _ c.state-state.ensures.replay (c.doubt-doubt.ensures.none c.requires); drawn = lit≤ tt }
+invariant_of-result-2 g c = record { kept = replay_kept c.args.store _ c.state-state.ensures.replay (c.doubt-doubt.ensures.none c.requires) (c.doubt-doubt.ensures.no_renewal c.requires); drawn = lit≤ tt }
 
 pub returns-clause-base : goal.returns-clause-base
 returns-clause-base g c =
