@@ -8,6 +8,8 @@ mod commits;
 #[cfg(test)]
 mod connections;
 #[cfg(test)]
+mod folds;
+#[cfg(test)]
 mod houses;
 #[cfg(test)]
 mod offices;

@@ -20,7 +20,7 @@ const AREA: &[u8] = b"\x01PCMAIL1\x0a\
 \x00";
 
 /// The user ann, and an empty mail to her.
-fn first_entries(alloc: Global) -> Result<Vec<OfficeEntry>, Fail> {
+pub fn first_entries(alloc: Global) -> Result<Vec<OfficeEntry>, Fail> {
     let user = Name::read(b"ann").ok_or("a name")?;
     let mut names = Names::new(alloc);
     names.push(user)?;

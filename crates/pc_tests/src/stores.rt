@@ -1,6 +1,6 @@
 //! Stores over disks in memory, of any machine: each function is proved from what every machine keeps.
 
-use pc_base::{CommitFault, Machine, StoreFault};
+use pc_base::{Bytes, CommitFault, Machine, StoreFault};
 use pc_disk::{Choice, Disk, MemoryDisk};
 use pc_store::{OpenFault, Store};
 use std::alloc::Global;
@@ -155,4 +155,142 @@ fn goes_on<M: Machine>(
         Ok(_) => Ok(true),
         Err(_) => Err("goes on".into()),
     }
+}
+
+/// Folds a store that may be folded.
+fn fold<M: Machine>(
+    alloc: Global,
+    store: &mut Store<M, MemoryDisk>,
+) -> Result<Result<(), CommitFault>, Fail> {
+    if store.is_broken() {
+        return Err("whole".into());
+    }
+    Ok(store.fold(alloc))
+}
+
+/// A new store that took these entries, was folded, and took these behind.
+pub fn folded_store<M: Machine>(
+    alloc: Global,
+    entries: Vec<M::Entry>,
+    behind: Vec<M::Entry>,
+) -> Result<Store<M, MemoryDisk>, Fail> {
+    let mut store: Store<M, MemoryDisk> = store_of(alloc, entries)?;
+    if fold(alloc, &mut store)?.is_err() {
+        return Err("folded".into());
+    }
+    for entry in behind {
+        if commit(alloc, &mut store, entry)?.is_err() {
+            return Err("committed".into());
+        }
+    }
+    Ok(store)
+}
+
+/// The bytes of area 1 of a store.
+pub fn second_area_of<M: Machine>(
+    alloc: Global,
+    store: Store<M, MemoryDisk>,
+) -> Result<Vec<u8>, Fail> {
+    let mut disk = store.into_disk();
+    let mut bytes = [0; 200];
+    let count = disk.read(1, 0, &mut bytes)?;
+    Ok(bytes[..count].to_vec(alloc)?)
+}
+
+/// The record of a store's state.
+fn record_of<M: Machine>(alloc: Global, store: &Store<M, MemoryDisk>) -> Result<Bytes, Fail> {
+    if store.is_broken() {
+        return Err("whole".into());
+    }
+    let mut record = Bytes::new(alloc);
+    store.state().save(&mut record)?;
+    Ok(record)
+}
+
+/// How many entries a store has, and the number of the next one.
+#[derive(Clone, Copy, Debug, PartialEq, Eq)]
+pub struct Standing {
+    pub entries: usize,
+    pub next: u64,
+}
+
+/// The store that stands on a disk.
+fn opened<M: Machine>(alloc: Global, disk: MemoryDisk) -> Result<Store<M, MemoryDisk>, Fail> {
+    match Store::open_store(alloc, disk) {
+        Ok(store) => Ok(store),
+        Err(_) => Err("opened again".into()),
+    }
+}
+
+/// What stands where a store is opened again; its record has to be this one.
+fn found_again<M: Machine>(
+    alloc: Global,
+    disk: MemoryDisk,
+    record: &Bytes,
+) -> Result<Standing, Fail> {
+    let store: Store<M, MemoryDisk> = opened(alloc, disk)?;
+    let found = record_of(alloc, &store)?;
+    if found.as_slice() != record.as_slice() {
+        return Err("another record".into());
+    }
+    Ok(Standing {
+        entries: store.trail().len(),
+        next: store.next(),
+    })
+}
+
+/// What stands after a fold and an opening.
+pub fn after_fold<M: Machine>(
+    alloc: Global,
+    store: Store<M, MemoryDisk>,
+) -> Result<Standing, Fail> {
+    let mut store = store;
+    let record = record_of(alloc, &store)?;
+    if fold(alloc, &mut store)?.is_err() {
+        return Err("folded".into());
+    }
+    found_again::<M>(alloc, store.into_disk(), &record)
+}
+
+/// What stands where the disk stops at the k-th device call of a fold: the answer, and what is found
+/// after a crash.
+pub fn after_stopped_fold<M: Machine>(
+    alloc: Global,
+    store: Store<M, MemoryDisk>,
+    k: u32,
+    choice: Choice,
+) -> Result<(Result<(), CommitFault>, Standing), Fail> {
+    if k == 0 {
+        return Err("the first call is 1".into());
+    }
+    let mut store = store;
+    let record = record_of(alloc, &store)?;
+    store.stop_at(k, choice);
+    let answer = fold(alloc, &mut store)?;
+    if store.is_broken() != answer.is_err() {
+        return Err("broken where it stopped".into());
+    }
+    let found = found_again::<M>(alloc, store.into_disk().crashed(), &record)?;
+    Ok((answer, found))
+}
+
+/// What stands where the k-th device call of a fold fails and the store is opened again in place.
+pub fn after_failed_fold<M: Machine>(
+    alloc: Global,
+    store: Store<M, MemoryDisk>,
+    k: u32,
+) -> Result<Standing, Fail> {
+    if k == 0 {
+        return Err("the first call is 1".into());
+    }
+    let mut store = store;
+    let record = record_of(alloc, &store)?;
+    store.fail_at(k);
+    if fold(alloc, &mut store)?.is_ok() || !store.is_broken() {
+        return Err("broken where it failed".into());
+    }
+    if store.reopen(alloc).is_err() {
+        return Err("opened again in place".into());
+    }
+    found_again::<M>(alloc, store.into_disk(), &record)
 }
