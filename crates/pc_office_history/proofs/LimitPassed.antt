@@ -1,5 +1,5 @@
 -- The limit that an entry is told is the first of all that is passed.
-use Rattle.std.proofs.Common.{◌≡◌, Bool, true, false, filter, find, refl, ◌∙◌, ap}
+use Rattle.std.proofs.Common.{◌≡◌, Bool, false, filter, find, refl, ◌∙◌, ap}
 use Rattle.std.specs.List.{AllByRecursion as Every, list_any}
 use Rattle.pc_base.specs.declared.refusal.LimitWord.{LimitWord}
 use Rattle.pc_base.specs.declared.refusal.LimitWord.TheVariants as limit
