@@ -2,12 +2,13 @@
 
 ghost use Rattle.std.specs.Prelude.{◌≡◌, ℕ, ◌≤◌, ◌++◌, length, IsTrue, OnOk, OnErr, IfOk};
 ghost use Rattle.pc_base.specs.Machine.{FaultAt};
-ghost use Rattle.pc_office_spelling.specs.RecordForm.{CanBeSaved, IsRecordFault};
+ghost use Rattle.pc_office_spelling.specs.RecordForm.{CanBeSaved, IsRecordFault, fits_record};
 ghost use Rattle.pc_office_spelling.specs.RecordSpelling.{spelled_record};
 ghost use Rattle.pc_office_history.specs.Record.{empty_record};
 ghost use Rattle.pc_office_history.specs.Known.{said_by};
 ghost use Rattle.pc_office_history.specs.History.{History, start, ◌▹◌, new_office};
-ghost use Rattle.pc_office_history.specs.Step.{after};
+ghost use Rattle.pc_office_history.specs.Legal.{IsLegal};
+ghost use Rattle.pc_office_history.specs.Step.{after, record_of};
 ghost use Rattle.pc_office_holdings.specs.State.{StandsFor, may_follow};
 
 use pc_base::{Bytes, Memory, ReadFault};
@@ -69,9 +70,15 @@ impl Office {
     }
 
     /// Reads the record of an office. `Malformed` names the first field at which no record goes on.
+    /// What was saved of a legal history is loaded as an office that stands for that history.
     pub fn load(alloc: Global, bytes: &[u8]) -> Result<Office, ReadFault>
         ensures found { IfOk result (λ office. CanBeSaved office × (spelled_record office ≡ bytes.now)) }
-        ensures history { (number : ℕ) → IfOk result (λ office. StandsFor office (start office number)) }
+        ensures base { (number : ℕ) → IfOk result (λ office. StandsFor office (start office number)) }
+        ensures history { (h : History)
+            → IsLegal h
+            → IsTrue (fits_record (record_of h))
+            → spelled_record (record_of h) ≡ bytes.now
+            → IfOk result (λ office. StandsFor office h) }
         ensures fault { FaultAt result (IsRecordFault bytes.now) }
         ensures within { FaultAt result (λ place. place ≤ length bytes.now) }
     {
@@ -82,11 +89,12 @@ impl Office {
     }
 
     /// Gives an office that was just made or loaded the number of its next entry. Each suits: what
-    /// an office knows doesn't depend on it.
+    /// an office knows doesn't depend on it, and it stands for what it stood for.
     pub fn number_from(&mut self, first: u64) -> bool
         ensures answer { IsTrue result }
         ensures state { self.new ≡ self.old }
-        ensures history { (number : ℕ) → StandsFor self.old (start self.old number) → StandsFor self.new (start self.new first) }
+        ensures base { (number : ℕ) → StandsFor self.old (start self.old number) → StandsFor self.new (start self.new first) }
+        ensures history { (h : History) → StandsFor self.old h → StandsFor self.new h }
     {
         true
     }

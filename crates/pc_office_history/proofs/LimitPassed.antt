@@ -1,5 +1,5 @@
 -- The limit that an entry is told is the first of all that is passed.
-use Rattle.std.proofs.Common.{◌≡◌, Bool, true, false, filter, find, refl, ◌∙◌, ap}
+use Rattle.std.proofs.Common.{◌≡◌, Bool, false, filter, find, refl, ◌∙◌, ap}
 use Rattle.std.specs.List.{AllByRecursion as Every, list_any}
 use Rattle.pc_base.specs.declared.refusal.LimitWord.{LimitWord}
 use Rattle.pc_base.specs.declared.refusal.LimitWord.TheVariants as limit
@@ -10,10 +10,9 @@ use Rattle.pc_tables.proofs.Table.{same-refl}
 use Rattle.pc_office_history.specs.declared.entry.OfficeEntry.{OfficeEntry}
 use Rattle.pc_office_history.specs.declared.entry.OfficeEntry.TheVariants.{AddUser, AddBoard, TakeAddress, DropAddress, Accept, Pulled}
 use Rattle.pc_office_history.specs.Known.{Known}
-use Rattle.pc_office_history.specs.Allowed.{is_allowed}
-use Rattle.pc_office_history.specs.Limits.{would_pass, limits_of, limit_passed, IsWithin, limits_of_bases}
-use Rattle.pc_office_history.specs.Laws.{limits_in_order}
-use Rattle.pc_office_history.proofs.Within.{KnowsNames, users-within, boards-within, addresses-within, waiting-within, board-within}
+use Rattle.pc_office_history.specs.Limits.{would_pass, limits_of, limits_in_order, IsWithin, limits_of_bases}
+use Rattle.pc_office_history.specs.Laws.{TellsFirstLimit}
+use Rattle.pc_office_history.proofs.Within.{KnowsNames, MakesNew, users-within, boards-within, addresses-within, waiting-within, board-within}
 
 -- the entry is held to this limit
 abbrev is_held : OfficeEntry → LimitWord → Bool
@@ -34,7 +33,7 @@ recipients-within k (Accept names message) held = held.0 refl
 recipients-within k (AddUser user) held = refl
 recipients-within k _ held = refl
 
-module _ (k : Known) (knows : KnowsNames k) (e : OfficeEntry) (allowed : is_allowed k e ≡ true) (within : IsWithin k limits_of_bases) where
+module _ (k : Known) (knows : KnowsNames k) (e : OfficeEntry) (new : MakesNew k e) (within : IsWithin k limits_of_bases) where
   unheld : (word : LimitWord) → is_held e word ≡ false → Every (λ held. held ≡ word → would_pass k e word ≡ false) (limits_of e)
   unheld word h = Every-unlisted (λ one other. same (limit_word one) (limit_word other)) word (would_pass k e word ≡ false) (same-refl (limit_word word)) (limits_of e) h
 
@@ -44,10 +43,10 @@ module _ (k : Known) (knows : KnowsNames k) (e : OfficeEntry) (allowed : is_allo
   unheld-unpassed limit.Boards h = boards-within k knows e (unheld limit.Boards h) within.1.0
   unheld-unpassed limit.Addresses h = addresses-within k knows e (unheld limit.Addresses h) within.1.1.0
   unheld-unpassed limit.Recipients h = recipients-within k e (unheld limit.Recipients h)
-  unheld-unpassed limit.Waiting h = waiting-within k knows e allowed (unheld limit.Waiting h) within.1.1.1.0
-  unheld-unpassed limit.Board h = board-within k knows e allowed (unheld limit.Board h) within.1.1.1.1.0
+  unheld-unpassed limit.Waiting h = waiting-within k knows e new (unheld limit.Waiting h) within.1.1.1.0
+  unheld-unpassed limit.Board h = board-within k knows e new (unheld limit.Board h) within.1.1.1.1.0
   unheld-unpassed limit.Sessions h = refl
   unheld-unpassed _ h = refl
 
-  pub first-told : limit_passed k e ≡ find (would_pass k e) limits_in_order
+  pub first-told : TellsFirstLimit k e
   first-told = ap (find (would_pass k e)) (held-in-order e) ∙ find-filter (would_pass k e) (is_held e) limits_in_order unheld-unpassed

@@ -20,7 +20,7 @@ use Rattle.pc_office_history.specs.declared.entry.OfficeEntry.TheVariants.{AddUs
 use Rattle.pc_office_history.specs.Record.{OfficeRecord, mail_for, mails_for}
 use Rattle.pc_office_history.specs.Known.{Known, said_by, is_past, after_entry}
 use Rattle.pc_office_history.specs.History.{History, start, ◌▹◌, known}
-use Rattle.pc_office_history.specs.Allowed.{is_allowed, is_user, is_board}
+use Rattle.pc_office_history.specs.Allowed.{is_allowed, is_user, is_board, is_free}
 use Rattle.pc_office_history.specs.Limits.{mail_weight, are_too_many, is_passed, would_pass, limits_of, limit_passed, IsWithin, limits_of_bases}
 use Rattle.pc_office_history.specs.Step.{record_of}
 use Rattle.pc_office_history.specs.Legal.{IsKept, IsWellFormed, IsCanonical, IsLegal}
@@ -72,6 +72,17 @@ KnowsNames-legal h legal = let stands = Stands-legal h legal in subst KnowsNames
 
 -- ---- limit by limit
 
+-- the name of which the entry makes a user or a board is free
+abbrev pub MakesNew : Known → OfficeEntry → Type 0
+MakesNew k (AddUser user) = is_free k user ≡ true
+MakesNew k (AddBoard board) = is_free k board ≡ true
+MakesNew k _ = Unit {0}
+
+pub makes-new : (k : Known) (e : OfficeEntry) → is_allowed k e ≡ true → MakesNew k e
+makes-new k (AddUser user) allowed = allowed
+makes-new k (AddBoard board) allowed = allowed
+makes-new k _ allowed = tt
+
 module _ (k : Known) (knows : KnowsNames k) where
   -- where the entry is held to this limit, it doesn't pass it
   abbrev IsHeld : OfficeEntry → LimitWord → Type 0
@@ -98,35 +109,35 @@ module _ (k : Known) (knows : KnowsNames k) where
   fewer-users : (noted : List ℕ → ℕ) → list_any (λ user. are_too_many (k.waiting user)) k.users ≡ false → list_any (λ user. are_too_many (filter (is_past (noted user)) (k.waiting user ++ []))) k.users ≡ false
   fewer-users noted h = list_any-weaker (λ user. are_too_many (k.waiting user)) (λ user. are_too_many (filter (is_past (noted user)) (k.waiting user ++ []))) k.users (λ user g. fewer-mails (noted user) (k.waiting user) g) h
 
-  pub waiting-within : (e : OfficeEntry) → is_allowed k e ≡ true → IsHeld e limit.Waiting → is_passed k limit.Waiting ≡ false → is_passed (after_entry k e) limit.Waiting ≡ false
-  waiting-within e allowed held h = by_entry e allowed held
+  pub waiting-within : (e : OfficeEntry) → MakesNew k e → IsHeld e limit.Waiting → is_passed k limit.Waiting ≡ false → is_passed (after_entry k e) limit.Waiting ≡ false
+  waiting-within e new held h = by_entry e new held
     where
       parts : (list_any (λ user. are_too_many (k.waiting user)) k.users ≡ false) × (nat_lt LAST_MAIL k.accepted ≡ false)
       parts = or_parts (list_any (λ user. are_too_many (k.waiting user)) k.users) (nat_lt LAST_MAIL k.accepted) h
 
-      by_entry : (e' : OfficeEntry) → is_allowed k e' ≡ true → IsHeld e' limit.Waiting → is_passed (after_entry k e') limit.Waiting ≡ false
-      by_entry (Accept names message) allowed' held' = held'.1.0 refl
-      by_entry (Pulled by number) allowed' held' = λ i. fewer-users (λ user. cond (same by user) number (k.noted user)) parts.0 i || parts.1 i
-      by_entry (AddUser user) allowed' held' =
-          let none = knows.nothing user (is_free-parts k user allowed').0 in
+      by_entry : (e' : OfficeEntry) → MakesNew k e' → IsHeld e' limit.Waiting → is_passed (after_entry k e') limit.Waiting ≡ false
+      by_entry (Accept names message) new' held' = held'.1.0 refl
+      by_entry (Pulled by number) new' held' = λ i. fewer-users (λ user. cond (same by user) number (k.noted user)) parts.0 i || parts.1 i
+      by_entry (AddUser user) new' held' =
+          let none = knows.nothing user (is_free-parts k user new').0 in
           let q = λ (name : List ℕ). are_too_many (filter (is_past (k.noted name)) (k.waiting name ++ [])) in
           let last : q user ≡ false = ap (λ mails. are_too_many (filter (is_past (k.noted user)) (mails ++ []))) none in
           (λ i. list_any-append q k.users (user ∷ []) i || nat_lt LAST_MAIL k.accepted)
           ∙ (λ i. (fewer-users k.noted parts.0 i || (last i || false)) || parts.1 i)
-      by_entry (AddBoard board) allowed' held' = λ i. fewer-users k.noted parts.0 i || parts.1 i
-      by_entry _ allowed' held' = λ i. fewer-users k.noted parts.0 i || parts.1 i
+      by_entry (AddBoard board) new' held' = λ i. fewer-users k.noted parts.0 i || parts.1 i
+      by_entry _ new' held' = λ i. fewer-users k.noted parts.0 i || parts.1 i
 
-  pub board-within : (e : OfficeEntry) → is_allowed k e ≡ true → IsHeld e limit.Board → is_passed k limit.Board ≡ false → is_passed (after_entry k e) limit.Board ≡ false
-  board-within e allowed held h = by_entry e allowed held
+  pub board-within : (e : OfficeEntry) → MakesNew k e → IsHeld e limit.Board → is_passed k limit.Board ≡ false → is_passed (after_entry k e) limit.Board ≡ false
+  board-within e new held h = by_entry e new held
     where
       same_boards : (list_any (λ name. nat_lt MOST_BOARD_MESSAGES (length (k.messages name ++ []))) k.boards || nat_lt MOST_BOARD_WEIGHT (total (λ name. total weight_of (k.messages name ++ [])) k.boards)) ≡ false
       same_boards = (λ i. list_any (λ name. nat_lt MOST_BOARD_MESSAGES (length (append-nil (k.messages name) i))) k.boards || nat_lt MOST_BOARD_WEIGHT (total (λ name. total weight_of (append-nil (k.messages name) i)) k.boards)) ∙ h
 
-      by_entry : (e' : OfficeEntry) → is_allowed k e' ≡ true → IsHeld e' limit.Board → is_passed (after_entry k e') limit.Board ≡ false
-      by_entry (Accept names message) allowed' held' = held'.1.1.0 refl
-      by_entry (AddBoard board) allowed' held' =
+      by_entry : (e' : OfficeEntry) → MakesNew k e' → IsHeld e' limit.Board → is_passed (after_entry k e') limit.Board ≡ false
+      by_entry (Accept names message) new' held' = held'.1.1.0 refl
+      by_entry (AddBoard board) new' held' =
           let parts = or_parts (list_any (λ name. nat_lt MOST_BOARD_MESSAGES (length (k.messages name ++ []))) k.boards) (nat_lt MOST_BOARD_WEIGHT (total (λ name. total weight_of (k.messages name ++ [])) k.boards)) same_boards in
-          let none = knows.blank board (is_free-parts k board allowed').1 in
+          let none = knows.blank board (is_free-parts k board new').1 in
           let q = λ (name : List ℕ). nat_lt MOST_BOARD_MESSAGES (length (k.messages name ++ [])) in
           let w = λ (name : List ℕ). total weight_of (k.messages name ++ []) in
           let last : q board ≡ false = ap (λ (messages : List (List (List ℕ))). nat_lt MOST_BOARD_MESSAGES (length (messages ++ []))) none in
@@ -134,8 +145,8 @@ module _ (k : Known) (knows : KnowsNames k) where
           let same_weight : total w (k.boards ++ board ∷ []) ≡ total w k.boards = omega (arith, total-append w k.boards (board ∷ []), nothing) in
           (λ i. list_any-append q k.boards (board ∷ []) i || nat_lt MOST_BOARD_WEIGHT (same_weight i))
           ∙ (λ i. (parts.0 i || (last i || false)) || parts.1 i)
-      by_entry (AddUser user) allowed' held' = same_boards
-      by_entry _ allowed' held' = same_boards
+      by_entry (AddUser user) new' held' = same_boards
+      by_entry _ new' held' = same_boards
 
   held-of : (e : OfficeEntry) (word : LimitWord) → limit_passed k e ≡ None → IsHeld e word
   held-of e word passed = Every-weaker (λ held. would_pass k e held ≡ false) (λ held. held ≡ word → would_pass k e word ≡ false) (λ held within is. subst (λ one. would_pass k e one ≡ false) is within) (limits_of e) (none-found (would_pass k e) (limits_of e) passed)
@@ -148,8 +159,8 @@ module _ (k : Known) (knows : KnowsNames k) where
       (
         addresses-within e (held-of e limit.Addresses passed) addresses,
         (
-          waiting-within e allowed (held-of e limit.Waiting passed) waiting,
-          (board-within e allowed (held-of e limit.Board passed) board, tt),
+          waiting-within e (makes-new k e allowed) (held-of e limit.Waiting passed) waiting,
+          (board-within e (makes-new k e allowed) (held-of e limit.Board passed) board, tt),
         ),
       ),
     ),

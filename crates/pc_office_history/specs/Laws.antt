@@ -21,7 +21,7 @@ use Rattle.pc_office_history.specs.Known.{Known, is_past, said_by, after_entry}
 use Rattle.pc_office_history.specs.History.{History, start, ◌▹◌, ◌▹▹◌, new_office, known, next, mails, mail_numbered}
 use Rattle.pc_office_history.specs.Allowed.{is_allowed, is_user, is_board, is_address}
 use Rattle.pc_office_history.specs.Answers.{addresses_of, waiting_past, board_of}
-use Rattle.pc_office_history.specs.Limits.{are_too_many, board_weight, would_pass, limit_passed, IsWithin, limits_of_bases}
+use Rattle.pc_office_history.specs.Limits.{are_too_many, board_weight, would_pass, limit_passed, limits_in_order, IsWithin, limits_of_bases}
 use Rattle.pc_office_history.specs.Step.{after, record_of}
 use Rattle.pc_office_history.specs.Legal.{HasOtherUser, IsWellFormed, IsCanonical, IsLegal}
 
@@ -65,16 +65,16 @@ LimitsHold = (h : History) → IsLegal h → IsWithin (known h) limits_of_bases
 abbrev pub LimitIsPassed : Type 0
 LimitIsPassed = (h : History) (e : OfficeEntry) (limit : LimitWord) → limit_passed (known h) e ≡ Some limit → would_pass (known h) e limit ≡ true
 
--- all limits, in the order in which they are told
-abbrev pub limits_in_order : List LimitWord
-limits_in_order = limit.Users ∷ limit.Boards ∷ limit.Addresses ∷ limit.Recipients ∷ limit.Waiting ∷ limit.Board ∷ []
+-- the entry is told the first of all limits, in their order, that it would pass, and none where it would pass none
+abbrev pub TellsFirstLimit : Known → OfficeEntry → Type 0
+TellsFirstLimit k e = limit_passed k e ≡ find (would_pass k e) limits_in_order
 
--- an allowed entry is told the first of all limits, in their order, that it would pass,
--- and none where it would pass none
+-- this holds of each allowed entry, and of each mail, allowed or not: that no number is left for it is a limit too, and
+-- too many names are told before it is known who they are
 abbrev pub FirstLimitIsTold : Type 0
-FirstLimitIsTold = (h : History) → IsLegal h → (e : OfficeEntry)
-    → is_allowed (known h) e ≡ true
-    → limit_passed (known h) e ≡ find (would_pass (known h) e) limits_in_order
+FirstLimitIsTold = (h : History) → IsLegal h
+    → ((e : OfficeEntry) → is_allowed (known h) e ≡ true → TellsFirstLimit (known h) e)
+    × ((names message : List (List ℕ)) → TellsFirstLimit (known h) (Accept names message))
 
 -- an allowed entry that passes no limit makes of a canonical record one that says what is known after the entry
 abbrev pub StepIsOneEntryMore : Type 0

@@ -45,7 +45,8 @@ pub record IsCanonical (r : OfficeRecord) : Type 0 where
   pub well_formed : IsWellFormed r
   pub within : IsWithin (said_by r) limits_of_bases
 
--- the base is canonical, each entry was allowed, and none passed a limit
+-- the base is canonical, each entry was allowed, and none passed a limit; the number of the first entry is any,
+-- since of all that is known of the office only the number of the next entry depends on it
 abbrev pub IsLegal : History → Type 0
 IsLegal (start r number) = IsCanonical r
 IsLegal (h ▹ e) = IsLegal h × (is_allowed (known h) e ≡ true) × (limit_passed (known h) e ≡ None)

@@ -51,6 +51,10 @@ limits_of (TakeAddress _ _ _) = limit.Addresses ∷ []
 limits_of (Accept _ _) = limit.Recipients ∷ limit.Waiting ∷ limit.Board ∷ []
 limits_of _ = []
 
+-- all limits, in the order in which they are told
+abbrev pub limits_in_order : List LimitWord
+limits_in_order = limit.Users ∷ limit.Boards ∷ limit.Addresses ∷ limit.Recipients ∷ limit.Waiting ∷ limit.Board ∷ []
+
 -- the limit that an entry would pass first
 abbrev pub limit_passed : Known → OfficeEntry → Option LimitWord
 limit_passed k e = find (would_pass k e) (limits_of e)

@@ -1,5 +1,6 @@
 -- Small histories with what each answer must be.
 use Rattle.std.specs.Prelude.{◌≡◌, ℕ, Bool, true, false, List, [], ◌∷◌, map, codes, Option, Some, None, replicate}
+use Rattle.std.specs.List.{filter}
 use Rattle.pc_base.specs.declared.refusal.LimitWord.{LimitWord}
 use Rattle.pc_base.specs.declared.refusal.LimitWord.TheVariants as limit
 use Rattle.pc_message.specs.declared.lists.Mail.{Mail}
@@ -13,7 +14,7 @@ use Rattle.pc_office_history.specs.Record.{OfficeRecord, empty_record}
 use Rattle.pc_office_history.specs.History.{History, start, ◌▹◌, new_office, known, next, mails, mail_numbered}
 use Rattle.pc_office_history.specs.Allowed.{is_allowed}
 use Rattle.pc_office_history.specs.Answers.{addresses_of, waiting_past, board_of, boards_among}
-use Rattle.pc_office_history.specs.Limits.{board_weight, limit_passed}
+use Rattle.pc_office_history.specs.Limits.{board_weight, would_pass, limits_in_order, limit_passed}
 use Rattle.pc_office_history.specs.Step.{record_of}
 use Rattle.pc_office_history.specs.Legal.{IsWellFormed, IsCanonical, IsLegal}
 
@@ -62,6 +63,10 @@ allows h entries = map (is_allowed (known h)) entries
 -- of each entry, the limit that it would pass first
 abbrev pub passes : History → List OfficeEntry → List (Option LimitWord)
 passes h entries = map (limit_passed (known h)) entries
+
+-- all limits that the entry would pass, in their order
+abbrev pub all_passed : History → OfficeEntry → List LimitWord
+all_passed h e = filter (would_pass (known h) e) limits_in_order
 
 -- what waits for a user past a number
 abbrev pub waits : History → List ℕ → ℕ → List Mail
@@ -261,16 +266,24 @@ BaseGoesOn = IsLegal based
 
 -- ---- limits
 
--- as many names, all different
-abbrev pub names : ℕ → List (List ℕ)
-names count = map (λ number. 110 ∷ number ∷ []) (numbers 0 count)
+-- a name for each number: of names a history asks no more than that they are different
+abbrev pub named : ℕ → List ℕ
+named number = 110 ∷ number ∷ []
 
--- a record with so many users, boards and addresses, which share their names: with users and boards it is no well-formed record
+-- as many names
+abbrev pub names : ℕ → List (List ℕ)
+names count = map named (numbers 0 count)
+
+-- a board without messages for each number
+abbrev pub board_numbered : ℕ → List ℕ × List (List (List ℕ))
+board_numbered number = (98 ∷ number ∷ [], [])
+
+-- a record with so many users, boards and addresses, all of these for the first user
 abbrev pub filled : ℕ → ℕ → ℕ → OfficeRecord
 filled users boards addresses = record empty_record {
-  users = map (λ name. (name, 0)) (names users);
-  boards = map (λ name. (name, [])) (names boards);
-  addresses = map (λ name. (name, target name box)) (names addresses);
+  users = map (λ number. (named number, 0)) (numbers 0 users);
+  boards = map board_numbered (numbers 0 boards);
+  addresses = map (λ number. (named number, target (named 1) box)) (numbers 0 addresses);
 }
 
 -- 32 users, 64 boards and 1,024 addresses; an entry meets the limits that it can pass and no other, the first in their order is told
@@ -291,13 +304,18 @@ last_but_one = record {
   kept = [];
 }
 
--- 64 recipients, and 2^63 - 1 mails; the limit of recipients is told before that of mails
+-- as many mails as can be accepted
+abbrev pub last_accepted : History
+last_accepted = start last_but_one 9 ▹ Accept (ann ∷ []) note
+
+-- 64 recipients, and 2^63 - 1 mails; the limit of recipients is told before that of mails, though these names are nobody's
 abbrev pub MailsAreFew : Type 0
 MailsAreFew = (passes enrolled (Accept (names 64) note ∷ Accept (names 65) note ∷ []) ≡ None ∷ Some limit.Recipients ∷ [])
     × (passes (start last_but_one 9) (Accept (ann ∷ []) note ∷ []) ≡ None ∷ [])
     × (allows (start last_but_one 9) (Accept (ann ∷ []) note ∷ []) ≡ true ∷ [])
-    × (passes (start last_but_one 9 ▹ Accept (ann ∷ []) note) (Accept (ann ∷ []) note ∷ Accept (names 65) note ∷ []) ≡ Some limit.Waiting ∷ Some limit.Recipients ∷ [])
-    × (allows (start last_but_one 9 ▹ Accept (ann ∷ []) note) (Accept (ann ∷ []) note ∷ Pulled ann 9223372036854775807 ∷ Pulled ann 9223372036854775808 ∷ []) ≡ false ∷ true ∷ false ∷ [])
+    × (passes last_accepted (Accept (ann ∷ []) note ∷ Accept (names 65) note ∷ []) ≡ Some limit.Waiting ∷ Some limit.Recipients ∷ [])
+    × (all_passed last_accepted (Accept (names 65) note) ≡ limit.Recipients ∷ limit.Waiting ∷ [])
+    × (allows last_accepted (Accept (ann ∷ []) note ∷ Pulled ann 9223372036854775807 ∷ Pulled ann 9223372036854775808 ∷ []) ≡ false ∷ true ∷ false ∷ [])
 
 -- 1,024 mails wait for one user: no more for it, but for others, and for it again once it has pulled one
 abbrev pub WaitingIsFew : Type 0
@@ -328,9 +346,39 @@ BoardWeight = (message : List (List ℕ))
     × (weight_of message ≡ 33554432 → passes (start (on_board []) 9) (Accept (news ∷ work ∷ []) message ∷ []) ≡ None ∷ [])
     × (weight_of message ≡ 33554433 → passes (start (on_board []) 9) (Accept (news ∷ work ∷ []) message ∷ Accept (work ∷ []) message ∷ []) ≡ Some limit.Board ∷ None ∷ [])
 
--- a new office is legal, and so are the histories above
+-- ---- more limits than one
+
+-- an office with 32 users, 64 boards and 1,024 addresses
+abbrev pub crowded : History
+crowded = start (filled 32 64 1024) 9
+
+-- of a legal history: an allowed user would pass two limits, and is told the first
+abbrev pub TwoLimits : Type 0
+TwoLimits = IsLegal crowded
+    × (allows crowded (AddUser ann ∷ []) ≡ true ∷ [])
+    × (all_passed crowded (AddUser ann) ≡ limit.Users ∷ limit.Addresses ∷ [])
+    × (passes crowded (AddUser ann ∷ []) ≡ Some limit.Users ∷ [])
+
+-- an office where 1,024 mails wait for ann, who has 64 addresses, and 4,096 messages stand on the board
+abbrev pub laden : History
+laden = start (record (waiting_for_ann 1024) {
+  addresses = map (λ number. (named number, target ann box)) (numbers 0 64);
+  boards = (work, replicate 4096 []) ∷ [];
+}) 9
+
+-- of a legal history: allowed mails to 65 names would pass three limits, to 64 two, and where one more can wait one; each is told the first
+abbrev pub ThreeLimits : Type 0
+ThreeLimits = IsLegal laden
+    × (allows laden (Accept (work ∷ names 64) note ∷ Accept (work ∷ names 63) note ∷ Pulled ann 1 ∷ []) ≡ true ∷ true ∷ true ∷ [])
+    × (all_passed laden (Accept (work ∷ names 64) note) ≡ limit.Recipients ∷ limit.Waiting ∷ limit.Board ∷ [])
+    × (all_passed laden (Accept (work ∷ names 63) note) ≡ limit.Waiting ∷ limit.Board ∷ [])
+    × (all_passed (laden ▹ Pulled ann 1) (Accept (work ∷ names 63) note) ≡ limit.Board ∷ [])
+    × (passes laden (Accept (work ∷ names 64) note ∷ Accept (work ∷ names 63) note ∷ []) ≡ Some limit.Recipients ∷ Some limit.Waiting ∷ [])
+    × (passes (laden ▹ Pulled ann 1) (Accept (work ∷ names 63) note ∷ []) ≡ Some limit.Board ∷ [])
+
+-- a new office and these histories are legal
 abbrev pub SamplesAreLegal : Type 0
-SamplesAreLegal = IsLegal new_office × IsLegal sent_to_three × IsLegal one_pulled × IsLegal to_two_mailboxes × IsLegal three_pulled × IsLegal taken_by_other × IsLegal taken_in_turn × IsLegal on_boards
+SamplesAreLegal = IsLegal new_office × IsLegal sent_to_three × IsLegal one_pulled × IsLegal to_two_mailboxes × IsLegal three_pulled × IsLegal taken_by_other × IsLegal taken_in_turn × IsLegal on_boards × IsLegal last_accepted
 
 -- ---- bases
 

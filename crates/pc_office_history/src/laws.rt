@@ -27,7 +27,7 @@ pub fn limit_is_passed()
     ensures { LimitIsPassed }
 {}
 
-/// Of all limits the first that would be passed is told.
+/// Of all limits the first that would be passed is told, to each allowed entry and to each mail.
 pub fn first_limit_is_told()
     ensures { FirstLimitIsTold }
 {}

@@ -1,6 +1,6 @@
 //! Small histories, with what their answers must be. Each law is the contract of a function that does nothing.
 
-ghost use Rattle.pc_office_history.specs.Samples.{SentToThree, NoRecipient, OnePulled, NoSuchPull, PulledByOne, ToTwoMailboxes, ThreePulled, FirstName, TakenByOther, NamesAreShared, NoSuchAddress, InOrderOfTaking, NamesApart, OnBoards, SixtyFourAtOnce, BaseGoesOn, NamesAreFew, MailsAreFew, WaitingIsFew, BoardIsFull, WaitingWeight, BoardWeight, SamplesAreLegal, NoBases, UsersAtLimit, BoardAtLimit, WaitingAtLimit, WithoutAddress};
+ghost use Rattle.pc_office_history.specs.Samples.{SentToThree, NoRecipient, OnePulled, NoSuchPull, PulledByOne, ToTwoMailboxes, ThreePulled, FirstName, TakenByOther, NamesAreShared, NoSuchAddress, InOrderOfTaking, NamesApart, OnBoards, SixtyFourAtOnce, BaseGoesOn, NamesAreFew, MailsAreFew, WaitingIsFew, BoardIsFull, WaitingWeight, BoardWeight, TwoLimits, ThreeLimits, SamplesAreLegal, NoBases, UsersAtLimit, BoardAtLimit, WaitingAtLimit, WithoutAddress};
 
 /// A mail to two users and a board.
 pub fn sent_to_three()
@@ -112,7 +112,17 @@ pub fn board_weight()
     ensures { BoardWeight }
 {}
 
-/// The samples are legal histories.
+/// A user that would pass two limits.
+pub fn two_limits()
+    ensures { TwoLimits }
+{}
+
+/// Mails that would pass three limits, two, and one.
+pub fn three_limits()
+    ensures { ThreeLimits }
+{}
+
+/// A new office is legal, and so are eight of the samples.
 pub fn samples_are_legal()
     ensures { SamplesAreLegal }
 {}
