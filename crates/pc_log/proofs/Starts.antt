@@ -1,11 +1,11 @@
 -- What the first bytes of an area tell.
-use Rattle.std.proofs.Common.{◌≡◌, ℕ, ◌+◌, min, true, List, [], ◌∷◌, ◌++◌, length, take, drop, Option, None, Some, Result, Ok, Err, refl, sym, ap, subst, ◌∙◌, append-nil, arith}
+use Rattle.std.proofs.Common.{◌≡◌, ℕ, ◌+◌, min, true, List, [], ◌∷◌, ◌++◌, length, take, drop, Option, None, Some, Result, Ok, Err, refl, sym, ap, ◌∙◌, append-nil, arith}
 use Rattle.std.proofs.lemmas.List.{take_min}
 use Rattle.pc_log.specs.declared.head.Numbers.{Numbers}
 use Rattle.pc_log.specs.declared.fault.LogFault.{LogFault}
 use Rattle.pc_log.specs.declared.fault.LogFault.TheVariants.{Device, Malformed, Memory}
 use Rattle.pc_log.specs.Area.{Head, IsHead, head_bytes, is_made}
-use Rattle.pc_log.specs.Numbers.{SpellsNumbers}
+use Rattle.pc_log.specs.Numbers.{AreNumbers, SpellsNumbers}
 use Rattle.pc_log.specs.Reading.{◌>>=◌, bytes_at, numbers_of, head_of, Reached, opened, entry_at, next_of}
 use Rattle.pc_log.specs.Opening.{BeginsWith, Parses, Peeks, Gives, Starts, bytes_of_next}
 use Rattle.pc_log.proofs.Heads.{bind_is, head_takes}
@@ -36,62 +36,62 @@ front_read area buffer count long e =
     record { made = ap is_made same ∙ made_is area; behind = ap (drop 1) same ∙ behind_is area }
 
 -- the numbers behind the gate, as they were read
-pub record AreRead (kind : ℕ) (area rest : List ℕ) : Type 0 where
+pub record AreRead (area rest : List ℕ) : Type 0 where
   pub made : is_made area ≡ true
   pub behind : rest ≡ take 29 (drop 1 area)
 
-pub are_read : (kind : ℕ) (area front rest : List ℕ) → IsFront area front → (is_made front ≡ true) × (rest ≡ drop 1 front) → AreRead kind area rest
-are_read kind area front rest is e = record { made = sym is.made ∙ e.0; behind = e.1 ∙ is.behind }
+pub are_read : (area front rest : List ℕ) → IsFront area front → (is_made front ≡ true) × (rest ≡ drop 1 front) → AreRead area rest
+are_read area front rest is e = record { made = sym is.made ∙ e.0; behind = e.1 ∙ is.behind }
+
+pub peeks_fault : (fault : LogFault) (kind : ℕ) (area rest : List ℕ) → AreRead area rest → Parses {X = Numbers} {Y = Numbers} (λ n. n) (Err fault) (numbers_of kind rest) → Peeks (Err fault) kind area
+peeks_fault Device kind area rest are e = absurd e
+peeks_fault (Malformed place) kind area rest are e = (are.made, ap (numbers_of kind) (sym are.behind) ∙ e)
+peeks_fault Memory kind area rest are e = absurd e
+
+pub peeks : (kind : ℕ) (area rest : List ℕ) (n : Numbers) → AreRead area rest → numbers_of kind rest ≡ Ok n → Peeks (Ok (Some n)) kind area
+peeks kind area rest n are e = (are.made, ap (numbers_of kind) (sym are.behind) ∙ e)
 
 abbrev made_of : ℕ → Numbers → List ℕ → Result Head ℕ
 made_of kind n base = Ok (record { kind = kind; generation = n.generation; first = n.first; base = base })
 
-pub numbers_fault : (fault : LogFault) (kind : ℕ) (area rest : List ℕ) → AreRead kind area rest → Parses {X = Numbers} {Y = Numbers} (λ n. n) (Err fault) (numbers_of kind rest) → Starts (Err fault) kind area
+pub numbers_fault : (fault : LogFault) (kind : ℕ) (area : List ℕ) → Peeks (Err fault) kind area → Starts (Err fault) kind area
 unfolding head_of
-numbers_fault Device kind area rest are e = absurd e
-numbers_fault (Malformed place) kind area rest are e =
-    (are.made, ap (λ (r : Result Numbers ℕ). r >>= λ n. bytes_at 30 n.size area >>= λ base. made_of kind n base) (ap (numbers_of kind) (sym are.behind) ∙ e))
-numbers_fault Memory kind area rest are e = absurd e
+numbers_fault Device kind area peeked = tt
+numbers_fault (Malformed place) kind area peeked = (peeked.0, ap (λ (r : Result Numbers ℕ). r >>= λ n. bytes_at 30 n.size area >>= λ base. made_of kind n base) peeked.1)
+numbers_fault Memory kind area peeked = absurd peeked
 
-pub peek_fault : (fault : LogFault) (kind : ℕ) (area rest : List ℕ) → AreRead kind area rest → Parses {X = Numbers} {Y = Numbers} (λ n. n) (Err fault) (numbers_of kind rest) → Peeks (Err fault) kind area
-peek_fault Device kind area rest are e = absurd e
-peek_fault (Malformed place) kind area rest are e = (are.made, ap (numbers_of kind) (sym are.behind) ∙ e)
-peek_fault Memory kind area rest are e = absurd e
-
-pub base_fault : (fault : LogFault) (kind : ℕ) (area rest : List ℕ) (n : Numbers) → AreRead kind area rest → numbers_of kind rest ≡ Ok n → Gives {X = List ℕ} {Y = List ℕ} (λ bytes. bytes) (Err fault) (bytes_at 30 n.size area) → Starts (Err fault) kind area
+pub base_fault : (fault : LogFault) (kind : ℕ) (area : List ℕ) (n : Numbers) → Peeks (Ok (Some n)) kind area → Gives {X = List ℕ} {Y = List ℕ} (λ bytes. bytes) (Err fault) (bytes_at 30 n.size area) → Starts (Err fault) kind area
 unfolding head_of
-base_fault Device kind area rest n are numbers e = tt
-base_fault (Malformed place) kind area rest n are numbers e = (
-  are.made,
-  bind_is (numbers_of kind (take 29 (drop 1 area))) n (λ n. bytes_at 30 n.size area >>= λ base. made_of kind n base) (ap (numbers_of kind) (sym are.behind) ∙ numbers)
+base_fault Device kind area n peeked e = tt
+base_fault (Malformed place) kind area n peeked e = (
+  peeked.0,
+  bind_is (numbers_of kind (take 29 (drop 1 area))) n (λ n. bytes_at 30 n.size area >>= λ base. made_of kind n base) peeked.1
       ∙ ap (λ (r : Result (List ℕ) ℕ). r >>= λ base. made_of kind n base) e,
 )
-base_fault Memory kind area rest n are numbers e = tt
+base_fault Memory kind area n peeked e = tt
 
-pub head_read : (kind : ℕ) (area rest : List ℕ) (n : Numbers) (base : List ℕ) → AreRead kind area rest → numbers_of kind rest ≡ Ok n → bytes_at 30 n.size area ≡ Ok base
+pub head_read : (kind : ℕ) (area : List ℕ) (n : Numbers) (base : List ℕ) → Peeks (Ok (Some n)) kind area → bytes_at 30 n.size area ≡ Ok base
     → (is_made area ≡ true) × (head_of kind area ≡ Ok (record { kind = kind; generation = n.generation; first = n.first; base = base }))
 unfolding head_of
-head_read kind area rest n base are numbers based = (
-  are.made,
-  bind_is (numbers_of kind (take 29 (drop 1 area))) n (λ n. bytes_at 30 n.size area >>= λ base. made_of kind n base) (ap (numbers_of kind) (sym are.behind) ∙ numbers)
+head_read kind area n base peeked based = (
+  peeked.0,
+  bind_is (numbers_of kind (take 29 (drop 1 area))) n (λ n. bytes_at 30 n.size area >>= λ base. made_of kind n base) peeked.1
       ∙ bind_is (bytes_at 30 n.size area) base (λ base. made_of kind n base) based,
 )
 
 -- the numbers that were read are such as a head may have
-pub head_right : (kind : ℕ) (rest : List ℕ) (n : Numbers) (base : List ℕ) → SpellsNumbers kind rest n → length base ≡ n.size → IsHead (record { kind = kind; generation = n.generation; first = n.first; base = base })
-head_right kind rest n base spelled size =
-    let right = spelled.right in
-    record {
-      kind = (right.kind_least, right.kind_most);
-      generation = (right.generation_least, omega (arith, right.generation_most));
-      first = (right.first_least, right.first_most);
-      base = omega (arith, size, right.size_most);
-    }
+pub head_right : (kind : ℕ) (n : Numbers) (base : List ℕ) → AreNumbers kind n → length base ≡ n.size → IsHead (record { kind = kind; generation = n.generation; first = n.first; base = base })
+head_right kind n base right size = record {
+  kind = (right.kind_least, right.kind_most);
+  generation = (right.generation_least, omega (arith, right.generation_most));
+  first = (right.first_least, right.first_most);
+  base = omega (arith, size, right.size_most);
+}
 
-pub begins : (kind : ℕ) (area rest : List ℕ) (n : Numbers) (base : List ℕ) → AreRead kind area rest → SpellsNumbers kind rest n → bytes_at 30 n.size area ≡ Ok base
+pub begins : (kind : ℕ) (area : List ℕ) (n : Numbers) (base : List ℕ) → is_made area ≡ true → SpellsNumbers kind (take 29 (drop 1 area)) n → bytes_at 30 n.size area ≡ Ok base
     → BeginsWith (record { kind = kind; generation = n.generation; first = n.first; base = base }) area
-begins kind area rest n base are spelled based =
-    let t = head_takes kind area n base are.made (subst (λ (xs : List ℕ). SpellsNumbers kind xs n) are.behind spelled) based in
+begins kind area n base made spelled based =
+    let t = head_takes kind area n base made spelled based in
     let head : Head = record { kind = kind; generation = n.generation; first = n.first; base = base } in
     record { right = t.right; bytes = t.bytes ∙ ap (λ (xs : List ℕ). 1 ∷ (xs ++ drop (30 + length base) area)) (sym (append-nil (head_bytes head))) }
 

@@ -1,12 +1,20 @@
 //! The numbers of an area's head.
 
-ghost use Rattle.std.specs.Prelude.{◌≡◌, ◌<◌, ◌≤◌, max, min, nat_le, ◌&&◌, IfOk};
+ghost use Rattle.std.specs.Prelude.{◌≡◌, ◌⊎◌, ◌+◌, ◌^◌, ◌<◌, ◌≤◌, max, min, nat_le, ◌&&◌, IfOk, IfSome, MatchOption, true, false, drop, take};
 ghost use Rattle.std.specs.Int.{w8, w32, w64};
-ghost use Rattle.pc_log.specs.Opening.{Parses};
-ghost use Rattle.pc_log.specs.Numbers.{SpellsNumbers};
+ghost use Rattle.pc_base.specs.Stream.{Rose};
+ghost use Rattle.pc_disk.specs.Images.{area_of};
+ghost use Rattle.pc_log.specs.Area.{is_made};
+ghost use Rattle.pc_log.specs.Untouched.{Untouched};
+ghost use Rattle.pc_log.specs.Opening.{OnDevice, Parses, Peeks};
+ghost use Rattle.pc_log.specs.Numbers.{AreNumbers, SpellsNumbers};
 ghost use Rattle.pc_log.specs.Reading.{number_at, numbers_of};
 
 use crate::fault::LogFault;
+use pc_disk::Disk;
+
+/// How many bytes stand before an area's base.
+pub(crate) const HEAD_SIZE: usize = 30;
 
 /// The bytes of `PCMAIL1` and LF, as one number.
 pub(crate) const MAGIC: u64 = 0x5043_4d41_494c_310a;
@@ -29,8 +37,39 @@ pub struct Numbers {
     pub size: u32,
 }
 
+/// Reads the numbers of an area's head, and nothing behind them; none where the area isn't made.
+/// `Malformed` tells their first fault.
+pub fn peek<D: Disk>(disk: &mut D, area: u8, kind: u8) -> Result<Option<Numbers>, LogFault>
+    requires { area < 2 }
+    ensures exact { D.tells → Peeks result kind (area_of area (D.seen disk.old)) }
+    ensures right { IfOk result (λ numbers. IfSome numbers (AreNumbers kind)) }
+    ensures found { D.tells → IfOk result (λ numbers. IfSome numbers (SpellsNumbers kind (take 29 (drop 1 (area_of area (D.seen disk.old)))))) }
+    ensures untouched { Untouched D.Disk.own disk.old disk.new }
+    ensures cause { OnDevice result (Rose (D.faults disk.old) (D.faults disk.new)) }
+    ensures due { D.tells_due → OnDevice result (D.due disk.old (D.moment disk.old) ⊎ (2 ^ 64 ≤ D.taken disk.old + 30)) }
+    ensures taken { D.taken disk.new ≤ D.taken disk.old + 30 }
+{
+    let mut buffer = [0; HEAD_SIZE];
+    let count = disk.read(area, 0, &mut buffer)?;
+    let Some(head) = behind_open_gate(&buffer[..count]) else {
+        return Ok(None);
+    };
+    let numbers = read_numbers(head, kind)?;
+    Ok(Some(numbers))
+}
+
+/// What stands behind the gate of a made area.
+fn behind_open_gate(bytes: &[u8]) -> Option<&[u8]>
+    ensures { MatchOption result (is_made bytes.now ≡ false) (λ rest. (is_made bytes.now ≡ true) × (rest.now ≡ drop 1 bytes.now)) }
+{
+    match bytes {
+        [1, rest @ ..] if !rest.is_empty() => Some(rest),
+        _ => None,
+    }
+}
+
 /// The numbers at the front, of a head of this kind.
-pub(crate) fn read_numbers(bytes: &[u8], kind: u8) -> Result<Numbers, LogFault>
+fn read_numbers(bytes: &[u8], kind: u8) -> Result<Numbers, LogFault>
     ensures exact { Parses (λ numbers. numbers) result (numbers_of kind bytes.now) }
     ensures spelled { IfOk result (SpellsNumbers kind bytes.now) }
     ensures size { IfOk result (λ numbers. numbers.size ≤ 1073741824) }

@@ -10,9 +10,9 @@ mod opening;
 
 pub use fault::{AppendFault, LogFault};
 pub use found::{Found, PlacedEntry, Start};
-pub use head::Numbers;
+pub use head::{Numbers, peek};
 pub use log::Log;
-pub use opening::{Opening, peek};
+pub use opening::Opening;
 
 #[cfg(test)]
 mod tests;

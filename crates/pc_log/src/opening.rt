@@ -4,22 +4,18 @@ ghost use Rattle.std.specs.Prelude.{◌≡◌, ◌⊎◌, ℕ, ◌+◌, ◌-◌,
 ghost use Rattle.pc_base.specs.Stream.{Rose};
 ghost use Rattle.pc_disk.specs.Images.{area_of};
 ghost use Rattle.pc_log.specs.Untouched.{Untouched};
-ghost use Rattle.pc_log.specs.Numbers.{AreNumbers};
-ghost use Rattle.pc_log.specs.Area.{IsHead, is_made, entry_bytes, SpellsSize};
+ghost use Rattle.pc_log.specs.Area.{IsHead, entry_bytes, SpellsSize};
 ghost use Rattle.pc_log.specs.Reading.{behind_head, has_room, bytes_at, opened, size_of, next_of};
-ghost use Rattle.pc_log.specs.Opening.{BeginsWith, Parses, Peeks, Gives, OnDevice, IfMalformed, Starts, IfMade, IfEntry, Passes, bytes_of_next, ReadsAll, ReadsToFault};
+ghost use Rattle.pc_log.specs.Opening.{BeginsWith, Parses, Gives, OnDevice, IfMalformed, Starts, IfMade, IfEntry, Passes, bytes_of_next, ReadsAll, ReadsToFault};
 
 use crate::fault::LogFault;
 use crate::found::{PlacedEntry, Start};
-use crate::head::{Numbers, read_numbers, u32_at};
+use crate::head::{HEAD_SIZE, peek, u32_at};
 use crate::log::Log;
 use pc_base::Bytes;
 use pc_disk::Disk;
 use std::alloc::Global;
 use std::marker::Model;
-
-/// How many bytes stand before an area's base.
-const HEAD_SIZE: usize = 30;
 
 /// How many bytes of a gate and a length stand before an entry.
 const ENTRY_HEAD: usize = 5;
@@ -74,12 +70,9 @@ impl Opening {
         ensures taken { IfMade result (λ opening generation first base. D.taken disk.new ≤ D.taken disk.old + 30 + length base) }
         ensures most_taken { D.taken disk.new ≤ D.taken disk.old + 1073741854 }
     {
-        let mut buffer = [0; HEAD_SIZE];
-        let count = disk.read(area, 0, &mut buffer)?;
-        let Some(head) = behind_open_gate(&buffer[..count]) else {
+        let Some(numbers) = peek(disk, area, kind)? else {
             return Ok(Start::NotMade);
         };
-        let numbers = read_numbers(head, kind)?;
         let base = read_bytes(alloc, disk, area, HEAD_SIZE as u64, numbers.size)?;
         Ok(Start::Made {
             opening: Opening {
@@ -186,35 +179,6 @@ impl Opening {
             return Err(LogFault::Malformed { place: self.gate });
         }
         Ok(size)
-    }
-}
-
-/// Reads the numbers of an area's head, and nothing behind them; none where the area isn't made.
-/// `Malformed` tells their first fault.
-pub fn peek<D: Disk>(disk: &mut D, area: u8, kind: u8) -> Result<Option<Numbers>, LogFault>
-    requires { area < 2 }
-    ensures exact { D.tells → Peeks result kind (area_of area (D.seen disk.old)) }
-    ensures right { IfOk result (λ numbers. IfSome numbers (AreNumbers kind)) }
-    ensures untouched { Untouched D.Disk.own disk.old disk.new }
-    ensures cause { OnDevice result (Rose (D.faults disk.old) (D.faults disk.new)) }
-    ensures due { D.tells_due → OnDevice result (D.due disk.old (D.moment disk.old) ⊎ (2 ^ 64 ≤ D.taken disk.old + 30)) }
-    ensures taken { D.taken disk.new ≤ D.taken disk.old + 30 }
-{
-    let mut buffer = [0; HEAD_SIZE];
-    let count = disk.read(area, 0, &mut buffer)?;
-    let Some(head) = behind_open_gate(&buffer[..count]) else {
-        return Ok(None);
-    };
-    Ok(Some(read_numbers(head, kind)?))
-}
-
-// What stands behind the gate of a made area.
-fn behind_open_gate(bytes: &[u8]) -> Option<&[u8]>
-    ensures { MatchOption result (is_made bytes.now ≡ false) (λ rest. (is_made bytes.now ≡ true) × (rest.now ≡ drop 1 bytes.now)) }
-{
-    match bytes {
-        [1, rest @ ..] if !rest.is_empty() => Some(rest),
-        _ => None,
     }
 }
 

@@ -3,7 +3,7 @@
 
 ghost use Rattle.std.specs.Prelude.{◌≡◌, ◌<◌, ◌≤◌, IfOk, []};
 
-use crate::{AppendFault, Found, Log, LogFault, PlacedEntry};
+use crate::{AppendFault, Found, Log, LogFault, Numbers, PlacedEntry, peek};
 use pc_base::Bytes;
 use pc_disk::{Choice, Disk, MemoryDisk};
 use std::alloc::Global;
@@ -151,6 +151,39 @@ fn fronts_are_malformed(rt: HostRuntime) -> Result<(), Fail> {
     for count in 0..97 {
         let mut disk = holding(alloc, &AREA[..count])?;
         sees(&rt, count, look(alloc, &mut disk)?, front_seen(count));
+    }
+    Ok(())
+}
+
+// What the area's first so many bytes tell of its numbers.
+fn front_peeked(count: usize) -> Result<Option<Numbers>, LogFault> {
+    let place = match count {
+        0..=1 => return Ok(None),
+        2..=8 => 1,
+        9 => 9,
+        10..=17 => 10,
+        18..=25 => 18,
+        26..=29 => 26,
+        _ => return Ok(Some(Numbers {
+            generation: 1,
+            first: 1,
+            size: 15,
+        })),
+    };
+    Err(LogFault::Malformed { place })
+}
+
+// Asserts what is peeked in the area's first so many bytes.
+fn peeks(rt: &impl Abort, count: usize, found: Result<Option<Numbers>, LogFault>) {
+    assert!(rt; found == front_peeked(count), "{count}");
+}
+
+#[test]
+fn numbers_are_peeked(rt: HostRuntime) -> Result<(), Fail> {
+    let alloc = rt.alloc();
+    for count in 0..97 {
+        let mut disk = holding(alloc, &AREA[..count])?;
+        peeks(&rt, count, peek(&mut disk, 0, 1));
     }
     Ok(())
 }
