@@ -1,9 +1,7 @@
-use Rattle.std.proofs.Common.{◌≡◌, ◌∙◌, ℕ, ◌+◌, ◌-◌, ◌<◌, ◌≤◌, true, List, [], Some, Result, Err, refl, sym, ap, subst, arith}
+use Rattle.std.proofs.Common.{◌≡◌, ◌∙◌, ℕ, ◌+◌, ◌-◌, ◌<◌, ◌≤◌, true, List, [], Some, rules, refl, sym, ap, subst, arith}
 use Rattle.pc_disk.specs.Outcomes.{LeavesOnly}
 use Rattle.pc_log.specs.Area.{Head}
-use Rattle.pc_log.specs.declared.fault.LogFault.{LogFault}
 use Rattle.pc_log.specs.Logs.{LogState}
-use Rattle.pc_log.specs.Opening.{OnMemory}
 use Rattle.pc_log.specs.Untouched.{Untouched}
 use Rattle.pc_store.specs.History.{IsReplay}
 use Rattle.pc_store.specs.Store.{IsSound, StoreState}
@@ -133,8 +131,7 @@ invariant_of-self-in-Err-Memory g c =
     let inside = c.self.inside in
     let old : StoreState g.row.M.Denot g.row.D.Denot g.row.M-Entry.Denot = record { disk = inside.disk; area = inside.log.area; head = record { kind = machine.KIND; generation = inside.generation; first = inside.first; base = inside.base }; trail = inside.trail.items; state = inside.state; broken = inside.is_broken; doubt = inside.doubt; renewal = inside.renewal } in
     let new = c.create-made.new.disk in
-    let failed = subst (λ (r : Result LogState LogFault). OnMemory r (Untouched disk inside.disk new)) c.in-Err-Memory.is c.create-made.ensures.memory in
-    let untouched = subst (λ (f : LogFault). OnMemory {X = LogState} (Err f) (Untouched disk inside.disk new)) c.in-Err-Memory.field-0-is failed in
+    let untouched : Untouched disk inside.disk new = search rules in
     sound_rested machine disk.tells disk.seen disk.may_leave old inside.log inside.bytes new inside.trail.items _ _ c.self.invariant refl untouched.still
 
 
