@@ -314,7 +314,7 @@ sound_rested {E = E} machine tells seen may_leave store log bytes disk trail pas
 -- the store is broken
 pub sound_broken : {M D E : Type 0} (machine : Ghosts M E) (tells : Type 0) (seen : D → Images) (may_leave : D → Images → Type 0) (store : StoreState M D E) (log log' : LogState) (bytes : ℕ) (disk : D) (trail : List E) (state : M) (doubt : Option E) (renewal : Option Head)
     → IsSound machine tells seen may_leave store log bytes → log' ≡ log → trail ≡ store.trail → (tells → (left : Images) → may_leave disk left → OpensInDoubt machine (record store { doubt = doubt; renewal = renewal }) left)
-    → IsSound machine tells seen may_leave (record store { disk = disk; trail = trail; state = state; broken = true; doubt = doubt; renewal = renewal }) log' bytes
+    → IsSound machine tells seen may_leave (record store { disk = disk; area = log'.area; trail = trail; state = state; broken = true; doubt = doubt; renewal = renewal }) log' bytes
 sound_broken {E = E} machine tells seen may_leave store log log' bytes disk trail state doubt renewal sound logs same leaves =
     let one : IsSound machine tells seen may_leave (record store { disk = disk; state = state; broken = true; doubt = doubt; renewal = renewal }) log bytes = record {
       right = sound.right;
@@ -334,14 +334,15 @@ sound_broken {E = E} machine tells seen may_leave store log log' bytes disk trai
       leaves = leaves;
     } in
     let two = subst (λ (es : List E). IsSound machine tells seen may_leave (record store { disk = disk; trail = es; state = state; broken = true; doubt = doubt; renewal = renewal }) log bytes) (sym same) one in
-    subst (λ (l : LogState). IsSound machine tells seen may_leave (record store { disk = disk; trail = trail; state = state; broken = true; doubt = doubt; renewal = renewal }) l bytes) (sym logs) two
+    let three = subst (λ (a : ℕ). IsSound machine tells seen may_leave (record store { disk = disk; area = a; trail = trail; state = state; broken = true; doubt = doubt; renewal = renewal }) log bytes) (sym sound.in_area) two in
+    subst (λ (l : LogState). IsSound machine tells seen may_leave (record store { disk = disk; area = l.area; trail = trail; state = state; broken = true; doubt = doubt; renewal = renewal }) l bytes) (sym logs) three
 
 -- the entry stands
 pub sound_more : {M D E : Type 0} (machine : Ghosts M E) (tells : Type 0) (seen : D → Images) (may_leave : D → Images → Type 0) (store : StoreState M D E) (log log' : LogState) (bytes bytes' : ℕ) (disk : D) (entry : E) (written : List ℕ) (trail : List E) (state : M)
     → IsSound machine tells seen may_leave store log bytes → store.broken ≡ false → MayFollow machine store.head store.trail store.state entry → written ≡ machine.written entry
     → log'.area ≡ log.area → bytes' ≡ bytes + length written → trail ≡ store.trail ++ entry ∷ [] → state ≡ machine.step store.state entry
     → (tells → Stands log' store.head (written_of machine store.trail ++ written ∷ []) (seen disk) (may_leave disk)) → (tells → Only (seen disk) (may_leave disk)) → (tells → other_of store.area (seen disk) ≡ other_of store.area (seen store.disk))
-    → IsSound machine tells seen may_leave (record store { disk = disk; trail = trail; state = state }) log' bytes'
+    → IsSound machine tells seen may_leave (record store { disk = disk; area = log'.area; trail = trail; state = state }) log' bytes'
 sound_more {M = M} {E = E} machine tells seen may_leave store log log' bytes bytes' disk entry written trail state sound whole follow is area count more stepped stands settled kept =
     let pushed = ap (λ (b : List ℕ). written_of machine store.trail ++ b ∷ []) is ∙ sym (written_of-push machine store.trail entry) in
     let stand = λ (told : tells). subst (λ (es : List (List ℕ)). Stands log' store.head es (seen disk) (may_leave disk)) pushed (stands told) in
@@ -367,20 +368,22 @@ sound_more {M = M} {E = E} machine tells seen may_leave store log log' bytes byt
           (opens_whole machine store.head store.trail store.state entry (area_of store.area left) follow (subst (λ (a : ℕ). Spelled store.head (written_of machine (store.trail ++ entry ∷ [])) (area_of a left)) first ((stand told).leaves left may).spelled)));
     } in
     let two = subst (λ (es : List E). IsSound machine tells seen may_leave (record store { disk = disk; trail = es; state = machine.step store.state entry }) log' bytes') (sym more) one in
-    subst (λ (s : M). IsSound machine tells seen may_leave (record store { disk = disk; trail = trail; state = s }) log' bytes') (sym stepped) two
+    let three = subst (λ (s : M). IsSound machine tells seen may_leave (record store { disk = disk; trail = trail; state = s }) log' bytes') (sym stepped) two in
+    subst (λ (a : ℕ). IsSound machine tells seen may_leave (record store { disk = disk; area = a; trail = trail; state = state }) log' bytes') (sym first) three
 
 -- and is acknowledged
 pub acknowledged_more : {M D E : Type 0} (machine : Ghosts M E) (seen : D → Images) (may_leave : D → Images → Type 0) (store : StoreState M D E) (log' : LogState) (disk : D) (entry : E) (written : List ℕ) (trail : List E) (state : M)
     → MayFollow machine store.head store.trail store.state entry → written ≡ machine.written entry → log'.area ≡ store.area → store.area < 2 → IsOlder machine.KIND store.head.generation (other_of store.area (seen disk)) → trail ≡ store.trail ++ entry ∷ []
     → Stands log' store.head (written_of machine store.trail ++ written ∷ []) (seen disk) (may_leave disk) → Only (seen disk) (may_leave disk)
-    → Acknowledges machine seen may_leave (record store { disk = disk; trail = trail; state = state })
+    → Acknowledges machine seen may_leave (record store { disk = disk; area = log'.area; trail = trail; state = state })
 acknowledged_more {E = E} machine seen may_leave store log' disk entry written trail state follow is area within older more stands settled = record {
   settled = settled;
   opens =
       let spelled = subst (λ (a : ℕ). Spelled store.head (written_of machine store.trail ++ written ∷ []) (area_of a (seen disk))) area stands.reads.spelled in
       let here = subst (λ (b : List ℕ). Spelled store.head (written_of machine store.trail ++ b ∷ []) (area_of store.area (seen disk))) is spelled in
       let stands = stands_with machine store.head store.trail store.state entry (area_of store.area (seen disk)) follow here in
-      subst (λ (es : List E). OpensIn machine store.area store.head es (seen disk)) (sym more) (record { within = within; stands = stands; older = older });
+      let opens = subst (λ (es : List E). OpensIn machine store.area store.head es (seen disk)) (sym more) (record { within = within; stands = stands; older = older }) in
+      subst (λ (a : ℕ). OpensIn machine a store.head trail (seen disk)) (sym area) opens;
 }
 
 -- its state is where the history leads
@@ -389,9 +392,9 @@ replay_more {E = E} machine laws head trail trail' state state' entry follow mor
     subst (λ (es : List E). IsReplay machine head es state') (sym more) (replayed machine laws head (trail ++ entry ∷ []) state' (machine.step state entry) stepped follow.more)
 
 -- and nothing else has changed
-pub leaves_more : {M D E : Type 0} (machine : Ghosts M E) (store given : StoreState M D E) (number : ℕ) (entry : E) (disk : D) (trail : List E) (state : M) → store ≡ given → number ≡ next_number given → store.doubt ≡ None → trail ≡ store.trail ++ entry ∷ [] → state ≡ machine.step store.state entry
-    → CommitLeaves machine entry (Ok number) given (record store { disk = disk; trail = trail; state = state })
-leaves_more {M = M} {D = D} {E = E} machine store given number entry disk trail state same numbered none more stepped =
-    let P : StoreState M D E → Type 0 = λ s. record store { disk = disk; trail = trail; state = state } ≡ record s { disk = disk; trail = s.trail ++ entry ∷ []; state = machine.step s.state entry } in
-    let here : P store = ap (λ (es : List E). record store { disk = disk; trail = es; state = state }) more ∙ ap (λ (s : M). record store { disk = disk; trail = store.trail ++ entry ∷ []; state = s }) stepped in
-    (numbered, subst P same here, none)
+pub leaves_more : {M D E : Type 0} (machine : Ghosts M E) (store given : StoreState M D E) (number : ℕ) (entry : E) (disk : D) (area : ℕ) (trail : List E) (state : M) → store ≡ given → number ≡ next_number given → store.doubt ≡ None → area ≡ store.area → trail ≡ store.trail ++ entry ∷ [] → state ≡ machine.step store.state entry
+    → CommitLeaves machine entry (Ok number) given (record store { disk = disk; area = area; trail = trail; state = state })
+leaves_more {M = M} {D = D} {E = E} machine store given number entry disk area trail state same numbered none here more stepped =
+    let P : StoreState M D E → Type 0 = λ s. record store { disk = disk; area = area; trail = trail; state = state } ≡ record s { disk = disk; trail = s.trail ++ entry ∷ []; state = machine.step s.state entry } in
+    let kept : P store = ap (λ (a : ℕ). record store { disk = disk; area = a; trail = trail; state = state }) here ∙ ap (λ (es : List E). record store { disk = disk; trail = es; state = state }) more ∙ ap (λ (s : M). record store { disk = disk; trail = store.trail ++ entry ∷ []; state = s }) stepped in
+    (numbered, subst P same kept, none)

@@ -22,15 +22,15 @@ of_two P index less zeroth first =
 abbrev Told : Type 0
 Told = Result (Option Numbers) ℕ
 
-lifted : Result Numbers ℕ → Told
+abbrev lifted : Result Numbers ℕ → Told
 lifted (Ok numbers) = Ok (Some numbers)
 lifted (Err place) = Err place
 
-told_when : Bool → Result Numbers ℕ → Told
+abbrev told_when : Bool → Result Numbers ℕ → Told
 told_when true read = lifted read
 told_when false read = Ok None
 
-told : ℕ → List ℕ → Told
+abbrev told : ℕ → List ℕ → Told
 told kind area = told_when (is_made area) (numbers_of kind (take 29 (drop 1 area)))
 
 abbrev tells_none : Told
@@ -65,10 +65,10 @@ none_is = Ok None
 abbrev fault_is : ℕ → ℕ → Choice
 fault_is index place = Err (index, place)
 
-by_generation : ℕ → ℕ → Choice
+abbrev by_generation : ℕ → ℕ → Choice
 by_generation first second = if nat_lt second first then area_is 0 else (if nat_lt first second then area_is 1 else fault_is 1 10)
 
-chosen : Told → Told → Choice
+abbrev chosen : Told → Told → Choice
 chosen (Err place) second = fault_is 0 place
 chosen (Ok first) (Err place) = fault_is 1 place
 chosen (Ok None) (Ok None) = none_is
@@ -76,7 +76,7 @@ chosen (Ok None) (Ok (Some second)) = area_is 1
 chosen (Ok (Some first)) (Ok None) = area_is 0
 chosen (Ok (Some first)) (Ok (Some second)) = by_generation first.generation second.generation
 
-choice_of : ℕ → Images → Choice
+abbrev choice_of : ℕ → Images → Choice
 choice_of kind images = chosen (told kind (area_of 0 images)) (told kind (area_of 1 images))
 
 both : (first second first' second' : Told) → first ≡ first' → second ≡ second' → chosen first second ≡ chosen first' second'
@@ -128,7 +128,7 @@ fault_chosen kind images index place (of_one_generation first second has has' sa
 same_area : (index index' : ℕ) → area_is index ≡ area_is index' → index ≡ index'
 same_area index index' e = cc
 
-fault_of : Choice → ℕ × ℕ
+abbrev fault_of : Choice → ℕ × ℕ
 fault_of (Ok area) = (0, 0)
 fault_of (Err fault) = fault
 
@@ -156,10 +156,10 @@ pub record HasGeneration (kind : ℕ) (area : List ℕ) (generation : ℕ) : Typ
   pub has : HasNumbers kind area numbers
   pub same : numbers.generation ≡ generation
 
-made_of : ℕ → Numbers → List ℕ → Result Head ℕ
+abbrev made_of : ℕ → Numbers → List ℕ → Result Head ℕ
 made_of kind numbers base = Ok (record { kind = kind; generation = numbers.generation; first = numbers.first; base = base })
 
-generation_of : Result Head ℕ → ℕ
+abbrev generation_of : Result Head ℕ → ℕ
 generation_of (Ok head) = head.generation
 generation_of (Err place) = 0
 

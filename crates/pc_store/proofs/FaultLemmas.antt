@@ -153,11 +153,15 @@ none_faultless machine images index place none (in_none fault) = faultless machi
 none_faultless machine images index place none (in_current current fault) = made_beside machine.KIND index images current none
 
 -- the fault of the area that counts is the fault of both
-pub fault_in : {M E : Type 0} (machine : Ghosts M E) (images : Images) (index : ℕ) (fault : StoreFault) → IsCurrent machine.KIND index images → IsFaultAt machine index (area_of index images) fault → IsFaultOf machine images fault
+fault_in : {M E : Type 0} (machine : Ghosts M E) (images : Images) (index : ℕ) (fault : StoreFault) → IsCurrent machine.KIND index images → IsFaultAt machine index (area_of index images) fault → IsFaultOf machine images fault
 fault_in machine images index NotMade current bad = absurd (not_both (is_made (area_of index images)) current.has.made bad)
 fault_in machine images index Device current bad = tt
 fault_in machine images index (Malformed place_area place) current bad = subst (λ (i : ℕ). FirstFaultIn machine images i place) (sym bad.0) (in_current current bad.1)
 fault_in machine images index Memory current bad = tt
+
+pub current_fault : {M E : Type 0} (machine : Ghosts M E) (images : Images) (index : ℕ) (result : Result (History M E) StoreFault) → IsCurrent machine.KIND index images → IfErr result (IsFaultAt machine index (area_of index images)) → IfErr result (IsFaultOf machine images)
+current_fault machine images index (Ok history) current bad = tt
+current_fault machine images index (Err fault) current bad = fault_in machine images index fault current bad
 
 -- and so is that none counts
 pub none_in : {M E : Type 0} (machine : Ghosts M E) (images : Images) (fault : StoreFault) → Counts machine.KIND images (Err fault) → IsFaultOf machine images fault

@@ -12,7 +12,7 @@ use Rattle.pc_store.specs.History.{IsHistory, StandsFor, written_of}
 use Rattle.pc_store.specs.Current.{HasNumbers, IsOlder, OpensIn}
 use Rattle.pc_store.specs.Store.{Acknowledges, IsSound, OpensInDoubt, StoreState, next_number}
 use Rattle.pc_store.specs.Store.MayOpen.{as_it_was, renewed}
-use Rattle.pc_store.specs.Fold.{OpensOldOrNew, folded_head}
+use Rattle.pc_store.specs.Fold.{OpensOldOrNew, folded_head, next_head}
 use Rattle.pc_store.proofs.CurrentLemmas.{of_two, stands_numbers}
 use Rattle.pc_store.proofs.CommitLemmas.{history_legal}
 use Rattle.pc_store.proofs.SameLemmas.{Lawful}
@@ -51,6 +51,12 @@ new_opens machine index other head trail new state images beside is stands made 
       };
       older = inr (has.numbers, subst (λ (xs : List ℕ). HasNumbers machine.KIND xs has.numbers) (sym (beside.there images)) has.has, omega (arith, has.same, is.later));
     }
+
+pub same_head : (kind kind' generation first : ℕ) (base base' : List ℕ) → kind ≡ kind' → base ≡ base' → (let head : Head = record { kind = kind; generation = generation; first = first; base = base } in head) ≡ record { kind = kind'; generation = generation; first = first; base = base' }
+same_head kind kind' generation first base base' kinds bases =
+    let of_kind = λ (k : ℕ). (let head : Head = record { kind = k; generation = generation; first = first; base = base } in head) in
+    let of_base = λ (xs : List ℕ). (let head : Head = record { kind = kind'; generation = generation; first = first; base = xs } in head) in
+    ap of_kind kinds ∙ ap of_base bases
 
 -- while it is made, the old history counts, or the new one
 pub renews : {M E : Type 0} (machine : Ghosts M E) (index other : ℕ) (head : Head) (trail : List E) (new : Head) (state : M) (seen : Images) → Beside index other → MayRenew machine head new state → OpensIn machine index head trail seen
@@ -115,7 +121,7 @@ renewed_opens machine tells seen may_leave store log bytes disk area given head 
 pub sound_renewed : {M D E : Type 0} (machine : Ghosts M E) (tells : Type 0) (seen : D → Images) (may_leave : D → Images → Type 0) (store : StoreState M D E) (log log' : LogState) (bytes : ℕ) (disk : D) (given head : Head) (trail : List E)
     → IsSound machine tells seen may_leave store log bytes → log'.area ≡ 1 - store.area → given ≡ head → trail ≡ [] → MayRenew machine store.head head store.state → store.broken ≡ false
     → (tells → Stands log' given [] (seen disk) (may_leave disk)) → (tells → Only (seen disk) (may_leave disk)) → (tells → OpensIn machine (1 - store.area) head [] (seen disk))
-    → IsSound machine tells seen may_leave (record store { disk = disk; area = 1 - store.area; head = head; trail = trail }) log' 0
+    → IsSound machine tells seen may_leave (record store { disk = disk; area = log'.area; head = head; trail = trail }) log' 0
 sound_renewed {E = E} machine tells seen may_leave store log log' bytes disk given head trail sound other same none is whole stands settled opens =
     let one : IsSound machine tells seen may_leave (record store { disk = disk; area = 1 - store.area; head = head; trail = [] }) log' 0 = record {
       right = is.right;
@@ -134,13 +140,32 @@ sound_renewed {E = E} machine tells seen may_leave store log log' bytes disk giv
       older = λ told sure. (opens told).older;
       leaves = λ told left may. as_it_was (subst (λ (images : Images). OpensIn machine (1 - store.area) head [] images) (sym (settled told left may)) (opens told));
     } in
-    subst (λ (es : List E). IsSound machine tells seen may_leave (record store { disk = disk; area = 1 - store.area; head = head; trail = es }) log' 0) (sym none) one
+    let two = subst (λ (es : List E). IsSound machine tells seen may_leave (record store { disk = disk; area = 1 - store.area; head = head; trail = es }) log' 0) (sym none) one in
+    subst (λ (a : ℕ). IsSound machine tells seen may_leave (record store { disk = disk; area = a; head = head; trail = trail }) log' 0) (sym other) two
 
 pub renewed_acknowledged : {M D E : Type 0} (machine : Ghosts M E) (seen : D → Images) (may_leave : D → Images → Type 0) (store : StoreState M D E) (disk : D) (head : Head) (trail : List E) (index : ℕ)
     → index ≡ 1 - store.area → trail ≡ [] → Only (seen disk) (may_leave disk) → OpensIn machine (1 - store.area) head [] (seen disk) → Acknowledges machine seen may_leave (record store { disk = disk; area = index; head = head; trail = trail })
 renewed_acknowledged {E = E} machine seen may_leave store disk head trail index other none settled opens = record {
   settled = settled;
   opens = subst (λ (es : List E). OpensIn machine index head es (seen disk)) (sym none) (subst (λ (i : ℕ). OpensIn machine i head [] (seen disk)) (sym other) opens);
+}
+
+-- what is known where a new head is made: the store is whole, and the head may come
+pub record Renews {M D E : Type 0} (machine : Ghosts M E) (store : StoreState M D E) (first : ℕ) (base : List ℕ) : Type 0 where
+  pub whole : store.broken ≡ false
+  pub may : MayRenew machine store.head (next_head machine store first base) store.state
+
+pub may_renew : {M D E : Type 0} (machine : Ghosts M E) (tells : Type 0) (seen : D → Images) (may_leave : D → Images → Type 0) (store given : StoreState M D E) (log : LogState) (bytes first : ℕ) (base : List ℕ)
+    → IsSound machine tells seen may_leave store log bytes → store ≡ given → given.broken ≡ false → store.head.generation + 1 < 2 ^ 63 → (1 ≤ first) × (first ≤ 2 ^ 63) → length base ≤ 1073741824
+    → IsHistory machine (next_head machine given first base) [] given.state → Renews machine store first base
+may_renew {M = M} {D = D} {E = E} machine tells seen may_leave store given log bytes first base sound same whole more number size history = record {
+  whole = ap (λ (s : StoreState M D E). s.broken) same ∙ whole;
+  may = record {
+    right = record { kind = subst (λ (k : ℕ). (1 ≤ k) × (k ≤ 3)) sound.of_kind sound.right.kind; generation = (omega arith, more); first = number; base = size };
+    of_kind = refl;
+    later = omega arith;
+    history = subst (λ (s : StoreState M D E). IsHistory machine (next_head machine s first base) [] s.state) (sym same) history;
+  };
 }
 
 -- ---- the record of the state

@@ -1,9 +1,12 @@
 -- What was read of an area, put together.
-use Rattle.std.proofs.Common.{◌≡◌, ℕ, ◌+◌, ◌*◌, true, List, [], ◌∷◌, ◌++◌, length, drop, None, Ok, Err, refl, ap, ◌∙◌, subst, arith, ⊎_elim, length-append}
+use Rattle.std.proofs.Common.{◌≡◌, ℕ, ◌+◌, ◌*◌, ◌<◌, true, List, [], ◌∷◌, ◌++◌, length, drop, None, Result, Ok, Err, refl, sym, ap, ◌∙◌, subst, arith, ⊎_elim, length-append}
 use Rattle.std.specs.List.{flat_map}
 use Rattle.std.proofs.lemmas.List.{length-map}
+use Rattle.std.specs.Prelude.{IfOk}
 use Rattle.pc_base.specs.declared.machine.Machine.{Ghosts}
-use Rattle.pc_log.specs.Area.{Head, IsHead, bytes_of, entry_bytes, front, is_made}
+use Rattle.pc_disk.specs.Images.{Images, area_of, other_of}
+use Rattle.pc_log.specs.Area.{Head, IsHead, Spelled, bytes_of, entry_bytes, front, is_made}
+use Rattle.pc_log.specs.declared.head.Numbers.{Numbers}
 use Rattle.pc_log.specs.Logs.{LogState}
 use Rattle.pc_log.specs.Opening.{BeginsWith, Reads}
 use Rattle.pc_log.specs.Reading.{OpeningState, Reached, behind_head, head_of, next_of}
@@ -12,10 +15,13 @@ use Rattle.pc_log.proofs.Trails.{area_read, length-front}
 use Rattle.pc_base.specs.declared.store_fault.StoreFault.{StoreFault}
 use Rattle.pc_base.specs.declared.store_fault.StoreFault.TheVariants.{NotMade, Device, Malformed, Memory}
 use Rattle.pc_store.specs.declared.reading.Entries.{Entries}
-use Rattle.pc_store.specs.History.{AreAllowed, after, written_of}
+use Rattle.pc_store.specs.declared.reading.History.{History}
+use Rattle.pc_store.specs.History.{AreAllowed, StandsFor, after, written_of}
+use Rattle.pc_store.specs.Current.{IsCurrent, IsOlder}
 use Rattle.pc_store.specs.Opening.{FaultBehind}
 use Rattle.pc_store.specs.Opening.FirstFault.{in_base, in_number, in_entry}
-use Rattle.pc_store.specs.Reading.{BaseFault, EntriesAre, IsFaultAt, IsHeldIn, LoadsBase}
+use Rattle.pc_store.specs.Reading.{BaseFault, EntriesAre, HoldsCurrent, IsFaultAt, IsHeldIn, LoadsBase, head_of_history}
+use Rattle.pc_store.proofs.CurrentLemmas.{stands_numbers}
 
 -- a head of these parts
 abbrev head_with : ℕ → ℕ → ℕ → List ℕ → Head
@@ -116,3 +122,33 @@ entries_in machine tells area area' old new state state' first found same are =
       are.1,
       λ told. subst (λ (a : List ℕ). next_of new.reached a ≡ Ok None) (same told) (are.2 told),
     )
+
+abbrev numbers_generation : Result Numbers ℕ → ℕ
+numbers_generation (Ok numbers) = numbers.generation
+numbers_generation (Err place) = 0
+
+-- what the area that counts holds
+pub current_held : {M E : Type 0} (machine : Ghosts M E) (tells : Type 0) (images images' : Images) (index : ℕ) (result : Result (History M E) StoreFault)
+    → (tells → images' ≡ images) → index < 2 → (tells → IsCurrent machine.KIND index images) → IfOk result (IsHeldIn machine tells index (area_of index images')) → IfOk result (HoldsCurrent machine tells images)
+current_held machine tells images images' index (Ok history) same less current held =
+    let head = head_of_history machine history in
+    let entries = written_of machine history.trail.items in
+    let spelled = λ (told : tells). subst (λ (i : Images). Spelled head entries (area_of index i)) (same told) (held.1.spelled told) in
+    record {
+      within = omega (arith, held.0, less);
+      holds = record {
+        right = held.1.right;
+        trail = held.1.trail;
+        bytes = held.1.bytes;
+        history_is = held.1.history_is;
+        gate = held.1.gate;
+        spelled = λ told. subst (λ (i : ℕ). Spelled head entries (area_of i images)) (sym held.0) (spelled told);
+      };
+      older = λ told.
+          let counts = current told in
+          let stands : StandsFor machine head history.trail.items (area_of index images) = record { state = history.state; history = held.1.history_is; area_of = record { of_kind = refl; right = held.1.right; trail = held.1.trail; spelled = spelled told } } in
+          let has = stands_numbers machine head history.trail.items (area_of index images) stands in
+          let one : counts.numbers.generation ≡ history.generation = ap numbers_generation (sym counts.has.read ∙ has.has.read) ∙ has.same in
+          subst (λ (i : ℕ). IsOlder machine.KIND history.generation (other_of i images)) (sym held.0) (subst (λ (n : ℕ). IsOlder machine.KIND n (other_of index images)) one counts.older);
+    }
+current_held machine tells images images' index (Err fault) same less current held = tt

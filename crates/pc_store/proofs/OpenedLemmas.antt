@@ -14,9 +14,9 @@ use Rattle.pc_store.specs.Current.{IsOlder, OpensIn}
 use Rattle.pc_store.specs.Opening.{FirstFault, FirstFaultIn, IsFaultOf, IsOutside}
 use Rattle.pc_store.specs.Opening.FirstFaultIn.{in_none, in_current}
 use Rattle.pc_store.specs.Reading.{FindsHistory, HoldsCurrent, HoldsSettled, head_of_history}
-use Rattle.pc_store.specs.Store.{Acknowledges, IsSound, OpensInDoubt, SameHistory, StoreState}
+use Rattle.pc_store.specs.Store.{Acknowledges, IsSound, MayOpen, OpensInDoubt, SameHistory, StoreState}
 use Rattle.pc_store.specs.Store.MayOpen.{as_it_was, with_entry, renewed}
-use Rattle.pc_store.specs.Store.SameHistory as same
+use Rattle.pc_store.specs.Store.SameHistory.{as_it_was as is_as_it_was, with_entry as has_entry, renewed as is_renewed}
 use Rattle.pc_store.proofs.SameLemmas.{Lawful, no_first_fault, one_base, same_history}
 use Rattle.pc_store.proofs.CurrentLemmas.{made_beside, none_beside, one_current, opens_current}
 
@@ -140,12 +140,12 @@ sound_still machine tells seen may_leave store now log bytes same keeps sound = 
 pub same_again : {M D E : Type 0} (machine : Ghosts M E) (old new : StoreState M D E) (images : Images)
     → ((index : ℕ) (head : Head) (trail : List E) → OpensIn machine index head trail images → (new.area ≡ index) × (new.head ≡ head) × (new.trail ≡ trail))
     → OpensInDoubt machine old images → SameHistory old new
-same_again machine old new images finds (as_it_was opens) = let found = finds old.area old.head old.trail opens in same.as_it_was found.0 found.1 found.2
-same_again machine old new images finds (with_entry entry doubted opens) = let found = finds old.area old.head (old.trail ++ entry ∷ []) opens in same.with_entry entry doubted found.0 found.1 found.2
-same_again machine old new images finds (renewed head doubted opens) = let found = finds (1 - old.area) head [] opens in same.renewed head doubted found.0 found.1 found.2
+same_again machine old new images finds (as_it_was opens) = let found = finds old.area old.head old.trail opens in is_as_it_was found.0 found.1 found.2
+same_again machine old new images finds (with_entry entry doubted opens) = let found = finds old.area old.head (old.trail ++ entry ∷ []) opens in has_entry entry doubted found.0 found.1 found.2
+same_again machine old new images finds (renewed head doubted opens) = let found = finds (1 - old.area) head [] opens in is_renewed head doubted found.0 found.1 found.2
 
-pub outside_again : {M D E : Type 0} (machine : Ghosts M E) (old : StoreState M D E) (images : Images) (fault : StoreFault)
-    → ((index : ℕ) (head : Head) (trail : List E) → OpensIn machine index head trail images → IsOutside fault) → OpensInDoubt machine old images → IsOutside fault
-outside_again machine old images fault finds (as_it_was opens) = finds old.area old.head old.trail opens
-outside_again machine old images fault finds (with_entry entry doubted opens) = finds old.area old.head (old.trail ++ entry ∷ []) opens
-outside_again machine old images fault finds (renewed head doubted opens) = finds (1 - old.area) head [] opens
+pub outside_again : {M E : Type 0} (machine : Ghosts M E) (area : ℕ) (head : Head) (trail : List E) (doubt : Option E) (renewal : Option Head) (images : Images) (fault : StoreFault)
+    → ((index : ℕ) (head : Head) (trail : List E) → OpensIn machine index head trail images → IsOutside fault) → MayOpen machine area head trail doubt renewal images → IsOutside fault
+outside_again machine area head trail doubt renewal images fault finds (as_it_was opens) = finds area head trail opens
+outside_again machine area head trail doubt renewal images fault finds (with_entry entry doubted opens) = finds area head (trail ++ entry ∷ []) opens
+outside_again machine area head trail doubt renewal images fault finds (renewed other doubted opens) = finds (1 - area) other [] opens

@@ -1,6 +1,9 @@
 //! A store over a small machine: crashes at each device call, and each byte of an area.
 
+ghost use Rattle.std.specs.Prelude.{◌<◌};
+
 mod commits;
+mod folds;
 mod openings;
 mod tally;
 
@@ -19,12 +22,25 @@ type TallyStore = Store<Tally, MemoryDisk>;
 const AREA: &[u8] =
     b"\x01PCMAIL1\x0a\x02\x00\x00\x00\x00\x00\x00\x00\x01\x00\x00\x00\x00\x00\x00\x00\x01\x00\x00\x00\x01\x00\x01\x00\x00\x00\x01\x07\x01\x00\x00\x00\x01\x09\x00";
 
+/// The area of a tally of two marks that was folded.
+const LATER: &[u8] =
+    b"\x01PCMAIL1\x0a\x02\x00\x00\x00\x00\x00\x00\x00\x02\x00\x00\x00\x00\x00\x00\x00\x03\x00\x00\x00\x01\x02\x00";
+
 static CHOICES: [Choice; 4] = [Choice::Keep, Choice::Lose, Choice::Fill(0), Choice::Fill(1)];
 
 fn disk_of(alloc: Global, area: &[u8]) -> Result<MemoryDisk, Fail> {
     let mut disk = MemoryDisk::new(alloc);
     disk.reserve(0, area.len() as u64)?;
     disk.write(0, 0, area)?;
+    disk.sync()?;
+    Ok(disk)
+}
+
+/// A disk with these bytes in its two areas.
+fn disk_of_both(alloc: Global, first: &[u8], second: &[u8]) -> Result<MemoryDisk, Fail> {
+    let mut disk = disk_of(alloc, first)?;
+    disk.reserve(1, second.len() as u64)?;
+    disk.write(1, 0, second)?;
     disk.sync()?;
     Ok(disk)
 }
@@ -107,10 +123,12 @@ fn flags_are(rt: &impl Abort, row: u32, store: &TallyStore, is_broken: bool, in_
     assert_eq!(rt; flags, (is_broken, in_doubt), "{row}");
 }
 
-/// Whether area 0 of a disk is read as these bytes.
-fn reads(disk: &mut MemoryDisk, wanted: &[u8]) -> bool {
+/// Whether an area of a disk is read as these bytes.
+fn reads(disk: &mut MemoryDisk, area: u8, wanted: &[u8]) -> bool
+    requires { area < 2 }
+{
     let mut bytes = [0; 100];
-    let Ok(count) = disk.read(0, 0, &mut bytes) else {
+    let Ok(count) = disk.read(area, 0, &mut bytes) else {
         return false;
     };
     &bytes[..count] == wanted
@@ -131,7 +149,7 @@ fn a_store_is_made_byte_for_byte(rt: HostRuntime) -> Result<(), Fail> {
     trail_is(&rt, &store, &[Tick { mark: 7 }, Tick { mark: 9 }]);
     room_is(&rt, &store, 65_534, 16_777_214);
     let mut disk = store.into_disk();
-    holds(&rt, "the area", reads(&mut disk, AREA));
+    holds(&rt, "the area", reads(&mut disk, 0, AREA));
     holds(&rt, "the other area", disk.length(1) == Ok(0));
     Ok(())
 }

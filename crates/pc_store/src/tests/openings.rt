@@ -1,7 +1,7 @@
 //! What opening and making answer: for each front of an area, for each byte of it, and where the disk
 //! fails or stops. The expected answers are worked out by hand.
 
-ghost use Rattle.std.specs.Prelude.{◌<◌, ◌⊎◌, [], ◌∷◌, ◌++◌, MatchOption};
+ghost use Rattle.std.specs.Prelude.{◌-◌, ◌<◌, ◌⊎◌, [], ◌∷◌, ◌++◌, MatchOption};
 ghost use Rattle.pc_store.specs.Opening.{OpensAs};
 
 use super::tally::Tick;
@@ -325,12 +325,12 @@ fn a_failure_while_a_store_is_made(rt: HostRuntime) {
 }
 
 /// Whatever was done with a store before: after a crash it opens as its history, with the entry in doubt
-/// or without it.
+/// or without it, or as the head in doubt.
 fn open_after_a_crash<M: Machine>(
     alloc: Global,
     store: Store<M, MemoryDisk>,
 ) -> Result<Store<M, MemoryDisk>, OpenFault<MemoryDisk>>
-    ensures { OpensAs store.head store.trail result ⊎ MatchOption store.doubt ⊥ (λ entry. OpensAs store.head (store.trail ++ entry ∷ []) result) }
+    ensures { OpensAs store.area store.head store.trail result ⊎ MatchOption store.doubt ⊥ (λ entry. OpensAs store.area store.head (store.trail ++ entry ∷ []) result) ⊎ MatchOption store.renewal ⊥ (λ head. OpensAs (1 - store.area) head [] result) }
 {
     Store::open_store(alloc, store.into_disk().crashed())
 }

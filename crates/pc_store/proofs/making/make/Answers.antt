@@ -5,6 +5,7 @@ use Rattle.pc_disk.specs.Outcomes.{SameDue}
 use Rattle.pc_log.specs.Area.{Spelled, fresh, is_made}
 use Rattle.pc_log.specs.Making.{clear_calls}
 use Rattle.pc_log.specs.Logs.{LogState}
+use Rattle.pc_store.specs.declared.reading.History.{History}
 use Rattle.pc_store.specs.Current.{IsOlder}
 use Rattle.pc_store.proofs.MadeLemmas.{numbered_from, made_holds}
 use Rattle.pc_store.proofs.DueLemmas.{same_due_again}
@@ -24,7 +25,7 @@ returns-clause-holds g c =
     let zeroth : c.in-Ok.log.area ≡ 0 = ap (λ (l : LogState). l.area) c.in-Ok.ensures.log in
     let gate : c.in-Ok.log.gate ≡ 30 + length c.save.new.out = ap (λ (l : LogState). l.gate) c.in-Ok.ensures.log ∙ ap (λ (xs : List ℕ). 30 + length xs) c.as_slice.ensures in
     let now = g.D.Disk.seen c.create-made.new.disk in
-    let history = record { log = c.in-Ok.log; generation = 1; first = 1; base = c.save.new.out; trail = c.new.result; bytes = 0; state = c.number_from.new.self } in
+    let history : History g.row.M.Denot g.row.M-Entry.Denot = record { log = c.in-Ok.log; generation = 1; first = 1; base = c.save.new.out; trail = c.new.result; bytes = 0; state = c.number_from.new.self } in
     let spelled = λ (told : g.D.Disk.tells).
     let made = (c.in-Ok.ensures.stands told).reads.spelled in
     let two = subst (λ (k : ℕ). Spelled (record { kind = k; generation = 1; first = 1; base = c.as_slice.result.now }) [] (area_of c.in-Ok.log.area now)) c.KIND.ensures made in

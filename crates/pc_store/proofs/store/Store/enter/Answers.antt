@@ -115,7 +115,8 @@ returns-in-Err-clause-other_area g c told =
     let stands = c.make_room.ensures.stands told old.head entries (sound.stands told known.whole) in
     let run = run_either machine disk.tells disk.seen disk.may_leave disk.moment disk.left_since old inside.log inside.bytes mid new entry bytes sound known.whole known.follow c.requires.written told (λ (left : Images) since. g.met.D.Disk.only_now told inside.disk left since) (untouched.still told) untouched.same_moment (c.in-Err.ensures.any_moment told old.head entries stands) in
     let here = g.met.D.Disk.counts_now told new (disk.moment inside.disk) (disk.seen new) run.later (g.met.D.Disk.present told new) in
-    other_kept disk.seen disk.may_leave disk.moment disk.left_since inside.disk new old.area (StandsWithOrWithout machine old.head old.trail entry) run (sound.settled told known.whole) here ∙ ap (λ (s : StoreState g.row.M.Denot g.row.D.Denot g.row.M-Entry.Denot). other_of s.area (disk.seen s.disk)) view
+    subst (λ (s : StoreState g.row.M.Denot g.row.D.Denot g.row.M-Entry.Denot). other_of s.area (disk.seen new) ≡ other_of s.area (disk.seen s.disk)) view
+    (other_kept disk.seen disk.may_leave disk.moment disk.left_since inside.disk new old.area (StandsWithOrWithout machine old.head old.trail entry) run (sound.settled told known.whole) here)
 
 pub returns-in-Err-clause-due : goal.returns-in-Err-clause-due
 returns-in-Err-clause-due g c told =
@@ -220,7 +221,7 @@ returns-clause-leaves g c =
     let new = c.append.new.disk in
     let entries = written_of machine inside.trail.items in
     let more = pushed inside.trail.items c.make_room.new.trail.items c.push.new.self.items entry c.make_room.ensures.items c.in-Ok-push.ensures.items in
-    leaves_more machine old c.args.self.now c.next-number.result entry new c.push.new.self.items c.apply.new.self view c.next-number.ensures.value (sound.no_doubt known.whole) more c.in-Ok.ensures
+    leaves_more machine old c.args.self.now c.next-number.result entry new c.append.new.self.area c.push.new.self.items c.apply.new.self view c.next-number.ensures.value (sound.no_doubt known.whole) c.in_default-append.ensures.area more c.in-Ok.ensures
 
 pub returns-clause-first_two : goal.returns-clause-first_two
 returns-clause-first_two g c told =

@@ -18,7 +18,7 @@ pub returns-in_err-history-clause-outside : goal.returns-in_err-history-clause-o
 returns-in_err-history-clause-outside g c told =
     let p = err_from_is_err_and c.from_residual.result c.from_residual.ensures.1 in
     let now = g.D.Disk.seen c.self.inside.disk in
-    rw (p.1, p.2) (outside_again g.M.Machine _ now c.in_err-history.field-0.0 (λ index head trail opens. c.in_err-history.ensures.only told index head trail opens)
+    rw (p.1, p.2) (outside_again g.M.Machine _ _ _ _ _ now c.in_err-history.field-0.0 (λ index head trail opens. c.in_err-history.ensures.only told index head trail opens)
     (c.self.invariant.leaves told now (g.met.D.Disk.present told c.self.inside.disk)))
 
 pub returns-clause-same : goal.returns-clause-same

@@ -1,28 +1,32 @@
-use Rattle.std.proofs.Common.{◌≡◌, ◌∙◌, ℕ, List, [], ◌∷◌, ◌++◌, Option, Result, sym, ap, subst, inl, inr, ⊎_elim}
+use Rattle.std.proofs.Common.{◌≡◌, ◌∙◌, ℕ, ◌-◌, List, [], ◌∷◌, ◌++◌, Option, Some, Result, sym, ap, subst, inl, inr}
 use Rattle.std.specs.Prelude.{◌⊎◌, MatchOption}
 use Rattle.pc_base.specs.declared.machine.Machine.{Ghosts}
-use Rattle.pc_disk.specs.Images.{Images, area_of}
+use Rattle.pc_disk.specs.Images.{Images}
 use Rattle.pc_disk.specs.Deeds.{reads}
 use Rattle.pc_disk.specs.Memory.{DiskState}
 use Rattle.pc_log.specs.Area.{Head}
 use Rattle.pc_store.specs.declared.fault.OpenFault.{OpenFault}
-use Rattle.pc_store.specs.History.{StandsFor}
+use Rattle.pc_store.specs.Current.{OpensIn}
 use Rattle.pc_store.specs.Opening.{OpensAs}
 use Rattle.pc_store.specs.Store.{OpensInDoubt, StoreState}
-use Rattle.pc_store.proofs.OpenedLemmas.{with_doubt}
+use Rattle.pc_store.specs.Store.MayOpen.{as_it_was, with_entry, renewed}
 use Rattle.pc_store.proofs.tests.openings.open_after_a_crash.Goals as goal
 
-opens_either : {M D E : Type 0} (machine : Ghosts M E) (head : Head) (trail : List E) (doubt : Option E) (images : Images) (result : Result (StoreState M D E) (OpenFault D))
-    → ((head : Head) (trail : List E) → StandsFor machine head trail (area_of 0 images) → OpensAs head trail result) → OpensInDoubt machine head trail doubt images
-    → OpensAs head trail result ⊎ MatchOption doubt ⊥ (λ entry. OpensAs head (trail ++ entry ∷ []) result)
-opens_either machine head trail doubt images result finds =
-    ⊎_elim (λ without. inl (finds head trail without)) (λ doubted. inr (with_doubt machine head trail doubt images (λ entries. OpensAs head entries result) (λ entries stands. finds head entries stands) doubted))
+some_is : {X : Type 0} (option : Option X) (x : X) (P : X → Type 0) → option ≡ Some x → P x → MatchOption option ⊥ P
+some_is option x P is holds = rw is holds
+
+opens_one : {M D E : Type 0} (machine : Ghosts M E) (store : StoreState M D E) (images : Images) (result : Result (StoreState M D E) (OpenFault D))
+    → ((index : ℕ) (head : Head) (trail : List E) → OpensIn machine index head trail images → OpensAs index head trail result) → OpensInDoubt machine store images
+    → OpensAs store.area store.head store.trail result ⊎ MatchOption store.doubt ⊥ (λ entry. OpensAs store.area store.head (store.trail ++ entry ∷ []) result) ⊎ MatchOption store.renewal ⊥ (λ head. OpensAs (1 - store.area) head [] result)
+opens_one machine store images result finds (as_it_was opens) = inl (finds store.area store.head store.trail opens)
+opens_one machine store images result finds (with_entry entry is opens) = inr (inl (some_is store.doubt entry (λ entry. OpensAs store.area store.head (store.trail ++ entry ∷ []) result) is (finds store.area store.head (store.trail ++ entry ∷ []) opens)))
+opens_one machine store images result finds (renewed head is opens) = inr (inr (some_is store.renewal head (λ head. OpensAs (1 - store.area) head [] result) is (finds (1 - store.area) head [] opens)))
 
 pub returns : goal.returns
 returns g c =
     let disk = c.crashed.result in
     let first = ap (λ (d : DiskState). d.first) c.crashed.ensures.left in
     let seen : reads disk.first disk.deeds ≡ disk.first = ap (λ (d : DiskState). reads d.first d.deeds) c.crashed.ensures.left ∙ sym first in
-    let finds = λ (head : Head) (trail : List _) (stands : StandsFor g.M.Machine head trail (area_of 0 disk.first)).
-    c.open_store.ensures.only tt head trail (subst (λ (images : Images). StandsFor g.M.Machine head trail (area_of 0 images)) (sym seen) stands) in
-    opens_either g.M.Machine _ _ _ disk.first c.open_store.result finds (c.into_disk.ensures.leaves tt disk.first c.crashed.ensures.possible)
+    let finds = λ (index : ℕ) (head : Head) (trail : List _) (opens : OpensIn g.M.Machine index head trail disk.first).
+    c.open_store.ensures.only tt index head trail (subst (λ (images : Images). OpensIn g.M.Machine index head trail images) (sym seen) opens) in
+    opens_one g.M.Machine _ disk.first c.open_store.result finds (c.into_disk.ensures.leaves tt disk.first c.crashed.ensures.possible)
