@@ -62,9 +62,9 @@ module _ {D : Type 0} (faults : D → ℕ) (old new : DeskValue D) where
   resolved base none same are =
       let head = same_head old.store new.store none same in
       elim (same_trail old.store new.store none same) [
-    | inl trail ↦ resolved_without old.store.doubt (history_of old.base old.store) (history_of new.base new.store) (latest_in old.sessions) (latest_in new.sessions) (length old.store.trail) (length new.store.trail) (λ i. start (base i) (head i).first ▸▸ trail i) (ap length trail) are
-    | inr trail ↦ inr (resolved_by old.store.doubt trail base head are)
-  ]
+        | inl trail ↦ resolved_without old.store.doubt (history_of old.base old.store) (history_of new.base new.store) (latest_in old.sessions) (latest_in new.sessions) (length old.store.trail) (length new.store.trail) (λ i. start (base i) (head i).first ▸▸ trail i) (ap length trail) are
+        | inr trail ↦ inr (resolved_by old.store.doubt trail base head are)
+      ]
 
   pub opens_ok : (tells : Type 0) → (tells → new.base ≡ old.base) → new.drawn ≡ old.drawn → old.store.renewal ≡ None → (tells → SameHistory old.store new.store) → (new.store.broken ≡ false) × (new.store.doubt ≡ None) × (new.store.renewal ≡ None) → Are (latest_in new.sessions) (latest_but (dropped_if (nat_lt (length old.store.trail) (length new.store.trail)) (option_and_then dropped_by old.store.doubt)) (latest_in old.sessions)) → Opens tells (told_by faults old) (Ok tt) (told_by faults new)
   opens_ok tells base drawn none same mended are = record {

@@ -77,27 +77,29 @@ history_held machine tells index area generation first base old new state state'
     let old_entries : old.reached.entries ≡ 0 = ap (λ (o : OpeningState). o.reached.entries) begun in
     let old_bytes : old.reached.bytes ≡ 0 = ap (λ (o : OpeningState). o.reached.bytes) begun in
     let in_area : new.area ≡ index = taken.in_area ∙ ap (λ (o : OpeningState). o.area) begun in
-    let gate : new.reached.gate ≡ length (front head entries) = omega (arith, taken.gate, old_gate, length-front head entries, length-entries entries, same_length) in
-    (ap (λ (l : LogState). l.area) is ∙ in_area, record {
-      right = right;
-      trail = record {
-        each = taken.sizes;
-        count = omega (arith, taken.most_entries, taken.entries, same_length);
-        bytes = omega (arith, taken.most_bytes, taken.bytes);
-      };
-      bytes = are.1;
-      history_is = record {
-        base = loads.loaded;
-        is_base = record { canonical = loads.canonical; saved = loads.saved; suits = loads.suits };
-        allowed = subst (λ (s : _). AreAllowed machine s found.trail.items) loads.numbered taken.allowed;
-        leads = taken.leads ∙ ap (λ (s : _). after machine s found.trail.items) loads.numbered;
-        numbers = taken.numbers;
-      };
-      gate = ap (λ (l : LogState). l.gate) is ∙ gate;
-      spelled = λ told.
-          area_read head entries area (drop new.reached.gate area) (begins told)
-          (subst (λ (k : ℕ). drop k area ≡ flat_map entry_bytes entries ++ drop new.reached.gate area) old_gate (taken.spelled told)) (closed_takes new.reached area (are.2 told));
-    })
+    let gate : new.reached.gate ≡ length (front head entries) = omega (arith, taken.gate, old_gate, length-front head entries, length-entries entries, same_length) in (
+      ap (λ (l : LogState). l.area) is ∙ in_area,
+      record {
+        right = right;
+        trail = record {
+          each = taken.sizes;
+          count = omega (arith, taken.most_entries, taken.entries, same_length);
+          bytes = omega (arith, taken.most_bytes, taken.bytes);
+        };
+        bytes = are.1;
+        history_is = record {
+          base = loads.loaded;
+          is_base = record { canonical = loads.canonical; saved = loads.saved; suits = loads.suits };
+          allowed = subst (λ (s : _). AreAllowed machine s found.trail.items) loads.numbered taken.allowed;
+          leads = taken.leads ∙ ap (λ (s : _). after machine s found.trail.items) loads.numbered;
+          numbers = taken.numbers;
+        };
+        gate = ap (λ (l : LogState). l.gate) is ∙ gate;
+        spelled = λ told.
+            area_read head entries area (drop new.reached.gate area) (begins told)
+            (subst (λ (k : ℕ). drop k area ≡ flat_map entry_bytes entries ++ drop new.reached.gate area) old_gate (taken.spelled told)) (closed_takes new.reached area (are.2 told));
+      },
+    )
 
 -- the area may be named by what is read before or after
 pub entries_in : {M E : Type 0} (machine : Ghosts M E) (tells : Type 0) (area area' : List ℕ) (old new : OpeningState) (state state' : M) (first : ℕ) (found : Entries E)

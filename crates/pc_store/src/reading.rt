@@ -106,10 +106,7 @@ pub(crate) fn settle<D: Disk>(disk: &mut D) -> Result<(), StoreFault>
 }
 
 /// Reads the history in the area that counts.
-fn read_current<M: Machine, D: Disk>(
-    alloc: Global,
-    disk: &mut D,
-) -> Result<History<M>, StoreFault>
+fn read_current<M: Machine, D: Disk>(alloc: Global, disk: &mut D) -> Result<History<M>, StoreFault>
     ensures found { IfOk result (HoldsCurrent M.Machine.own D.tells (D.seen disk.old)) }
     ensures fault { D.tells → IfErr result (IsFaultOf M.Machine.own (D.seen disk.old)) }
     ensures untouched { Untouched D.Disk.own disk.old disk.new }
@@ -152,9 +149,7 @@ fn read_history<M: Machine, D: Disk>(
     };
     let mut state = load_base::<M>(alloc, area, base.as_slice(), first)?;
     let gate = BASE_PLACE + base.as_slice().len() as u64;
-    let entries = read_entries(
-        alloc, disk, &mut opening, &mut state, area, gate, first,
-    )?;
+    let entries = read_entries(alloc, disk, &mut opening, &mut state, area, gate, first)?;
     Ok(History {
         log: opening.into_log(),
         generation,
@@ -167,12 +162,7 @@ fn read_history<M: Machine, D: Disk>(
 }
 
 /// The state whose record stands in a head, and which gives its next entry this number.
-fn load_base<M: Machine>(
-    alloc: Global,
-    area: u8,
-    base: &[u8],
-    first: u64,
-) -> Result<M, StoreFault>
+fn load_base<M: Machine>(alloc: Global, area: u8, base: &[u8], first: u64) -> Result<M, StoreFault>
     requires some { 0 < first }
     requires most { first ≤ 2 ^ 63 }
     requires short { length base.now ≤ 1073741824 }

@@ -51,7 +51,12 @@ fn finds(
     second: &[u8],
     wanted: Result<usize, StoreFault>,
 ) -> Result<(), Fail> {
-    found_is(rt, row, found_on(alloc, disk_of_both(alloc, first, second)?), wanted);
+    found_is(
+        rt,
+        row,
+        found_on(alloc, disk_of_both(alloc, first, second)?),
+        wanted,
+    );
     Ok(())
 }
 
@@ -101,9 +106,24 @@ fn a_fold_is_made_byte_for_byte(rt: HostRuntime) -> Result<(), Fail> {
 #[test]
 fn a_fold_is_opened_again(rt: HostRuntime) -> Result<(), Fail> {
     let alloc = rt.alloc();
-    found_is(&rt, 0, found_on(alloc, folded(alloc, 0)?.into_disk()), Ok(1));
-    found_is(&rt, 1, found_on(alloc, folded(alloc, 1)?.into_disk()), Ok(0));
-    found_is(&rt, 2, found_on(alloc, folded(alloc, 2)?.into_disk()), Ok(0));
+    found_is(
+        &rt,
+        0,
+        found_on(alloc, folded(alloc, 0)?.into_disk()),
+        Ok(1),
+    );
+    found_is(
+        &rt,
+        1,
+        found_on(alloc, folded(alloc, 1)?.into_disk()),
+        Ok(0),
+    );
+    found_is(
+        &rt,
+        2,
+        found_on(alloc, folded(alloc, 2)?.into_disk()),
+        Ok(0),
+    );
     let mut store = folded(alloc, 2)?;
     holds(&rt, "opened again", store.reopen(alloc) == Ok(()));
     state_is(&rt, &store, 3, 4);
@@ -137,20 +157,58 @@ const DEVICE: Result<(), CommitFault> = Err(CommitFault::Device);
 
 /// Folds stop at each of so many calls, of which the last two open the gate; over a store of so many entries,
 /// folded so often before.
-fn stops_at_each(rt: &impl Abort, alloc: Global, again: u8, calls: u32, old: usize) -> Result<(), Fail>
+fn stops_at_each(
+    rt: &impl Abort,
+    alloc: Global,
+    again: u8,
+    calls: u32,
+    old: usize,
+) -> Result<(), Fail>
     requires { 2 < calls }
 {
     for choice in &CHOICES {
         for k in 1..calls - 1 {
             stops_at(rt, alloc, folded(alloc, again)?, k, *choice, DEVICE, old)?;
         }
-        stops_at(rt, alloc, folded(alloc, again)?, calls + 1, *choice, Ok(()), 0)?;
+        stops_at(
+            rt,
+            alloc,
+            folded(alloc, again)?,
+            calls + 1,
+            *choice,
+            Ok(()),
+            0,
+        )?;
     }
     for k in calls - 1..calls + 1 {
         stops_at(rt, alloc, folded(alloc, again)?, k, Choice::Keep, DEVICE, 0)?;
-        stops_at(rt, alloc, folded(alloc, again)?, k, Choice::Lose, DEVICE, old)?;
-        stops_at(rt, alloc, folded(alloc, again)?, k, Choice::Fill(0), DEVICE, old)?;
-        stops_at(rt, alloc, folded(alloc, again)?, k, Choice::Fill(1), DEVICE, 0)?;
+        stops_at(
+            rt,
+            alloc,
+            folded(alloc, again)?,
+            k,
+            Choice::Lose,
+            DEVICE,
+            old,
+        )?;
+        stops_at(
+            rt,
+            alloc,
+            folded(alloc, again)?,
+            k,
+            Choice::Fill(0),
+            DEVICE,
+            old,
+        )?;
+        stops_at(
+            rt,
+            alloc,
+            folded(alloc, again)?,
+            k,
+            Choice::Fill(1),
+            DEVICE,
+            0,
+        )?;
     }
     Ok(())
 }
@@ -220,7 +278,14 @@ fn the_area_of_the_greater_generation_is_opened(rt: HostRuntime) -> Result<(), F
     finds(&rt, alloc, 1, LATER, AREA, Ok(0))?;
     finds(&rt, alloc, 2, AREA, b"", Ok(2))?;
     finds(&rt, alloc, 3, b"", AREA, Ok(2))?;
-    finds(&rt, alloc, 4, b"\x01", b"\x00\x00", Err(StoreFault::NotMade))?;
+    finds(
+        &rt,
+        alloc,
+        4,
+        b"\x01",
+        b"\x00\x00",
+        Err(StoreFault::NotMade),
+    )?;
     finds(&rt, alloc, 5, AREA, AREA, at(1, 10))?;
     finds(&rt, alloc, 6, LATER, LATER, at(1, 10))
 }

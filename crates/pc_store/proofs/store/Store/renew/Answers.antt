@@ -33,7 +33,6 @@ invariant_of-self g c =
     renew_leaves machine old head left (run.each left (g.met.D.Disk.counts_now told new (disk.moment inside.disk) left run.later may))) in
     subst (λ (h : Head). IsSound machine disk.tells disk.seen disk.may_leave (record old { disk = new; broken = true; renewal = Some h }) inside.log inside.bytes) (sym in_doubt) broken
 
-
 pub returns-in-Err-Device-clause-any_moment : goal.returns-in-Err-Device-clause-any_moment
 returns-in-Err-Device-clause-any_moment g c told =
     let machine = g.M.Machine in
@@ -50,7 +49,6 @@ returns-in-Err-Device-clause-any_moment g c told =
     let other : 1 - c.area-area.result ≡ 1 - old.area = ap (λ (a : ℕ). 1 - a) c.area-area.ensures.area in
     let run = renew_run machine disk.tells disk.seen disk.may_leave disk.moment disk.left_since old inside.log inside.bytes new (1 - c.area-area.result) given head inside.state sound known.whole told other same known.may (c.create-made.ensures.any_moment told (sound.settled told known.whole)) in
     subst (λ (s : StoreState g.row.M.Denot g.row.D.Denot g.row.M-Entry.Denot). LeavesOnly disk.moment disk.left_since s.disk new (OpensOldOrNew machine s (next_head machine s c.args.first c.args.base))) view run
-
 
 pub returns-clause-any_moment : goal.returns-clause-any_moment
 returns-clause-any_moment g c told =
@@ -69,7 +67,6 @@ returns-clause-any_moment g c told =
     let run = renew_run machine disk.tells disk.seen disk.may_leave disk.moment disk.left_since old inside.log inside.bytes new (1 - c.area-area.result) given head inside.state sound known.whole told other same known.may (c.create-made.ensures.any_moment told (sound.settled told known.whole)) in
     subst (λ (s : StoreState g.row.M.Denot g.row.D.Denot g.row.M-Entry.Denot). LeavesOnly disk.moment disk.left_since s.disk new (OpensOldOrNew machine s (next_head machine s c.args.first c.args.base))) view run
 
-
 pub returns-in-Err-Memory-clause-any_moment : goal.returns-in-Err-Memory-clause-any_moment
 returns-in-Err-Memory-clause-any_moment g c told =
     let machine = g.M.Machine in
@@ -86,7 +83,6 @@ returns-in-Err-Memory-clause-any_moment g c told =
     let other : 1 - c.area-area.result ≡ 1 - old.area = ap (λ (a : ℕ). 1 - a) c.area-area.ensures.area in
     let run = renew_run machine disk.tells disk.seen disk.may_leave disk.moment disk.left_since old inside.log inside.bytes new (1 - c.area-area.result) given head inside.state sound known.whole told other same known.may (c.create-made.ensures.any_moment told (sound.settled told known.whole)) in
     subst (λ (s : StoreState g.row.M.Denot g.row.D.Denot g.row.M-Entry.Denot). LeavesOnly disk.moment disk.left_since s.disk new (OpensOldOrNew machine s (next_head machine s c.args.first c.args.base))) view run
-
 
 pub invariant_of-self-2 : goal.invariant_of-self-2
 invariant_of-self-2 g c =
@@ -105,7 +101,6 @@ invariant_of-self-2 g c =
     let opens = λ (told : disk.tells). renewed_opens machine disk.tells disk.seen disk.may_leave old inside.log inside.bytes new (1 - c.area-area.result) given head inside.state sound known.whole other same known.may told (c.in-Ok.ensures.made told) in
     sound_renewed machine disk.tells disk.seen disk.may_leave old inside.log c.in-Ok.log inside.bytes new given head c.new.result.items sound (ap (λ (l : LogState). l.area) c.in-Ok.ensures.log ∙ other) same c.new.ensures.items known.may known.whole c.in-Ok.ensures.stands c.in-Ok.ensures.settled opens
 
-
 pub returns-clause-acknowledged : goal.returns-clause-acknowledged
 returns-clause-acknowledged g c told =
     let machine = g.M.Machine in
@@ -123,7 +118,6 @@ returns-clause-acknowledged g c told =
     let opens = λ (told : disk.tells). renewed_opens machine disk.tells disk.seen disk.may_leave old inside.log inside.bytes new (1 - c.area-area.result) given head inside.state sound known.whole other same known.may told (c.in-Ok.ensures.made told) in
     renewed_acknowledged machine disk.seen disk.may_leave old new head c.new.result.items c.in-Ok.log.area (ap (λ (l : LogState). l.area) c.in-Ok.ensures.log ∙ other) c.new.ensures.items (c.in-Ok.ensures.settled told) (opens told)
 
-
 pub invariant_of-self-in-Err-Memory : goal.invariant_of-self-in-Err-Memory
 invariant_of-self-in-Err-Memory g c =
     let machine = g.M.Machine in
@@ -133,7 +127,6 @@ invariant_of-self-in-Err-Memory g c =
     let new = c.create-made.new.disk in
     let untouched : Untouched disk inside.disk new = search rules in
     sound_rested machine disk.tells disk.seen disk.may_leave old inside.log inside.bytes new inside.trail.items _ _ c.self.invariant refl untouched.still
-
 
 pub returns-clause-replay : goal.returns-clause-replay
 returns-clause-replay g c =
@@ -152,4 +145,3 @@ returns-clause-replay g c =
     let laws = g.met.M.Machine in
     let lawful : Lawful machine = record { fits = laws.allowed_fits; one = laws.one_entry; keeps = laws.step_is_legal; counts = laws.step_next; begins = laws.numbered_is_legal; numbered = laws.numbered_next; saved = laws.numbered_saved; entry_is_read = laws.entry_is_read; one_entry_fault = laws.one_entry_fault; one_record_fault = laws.one_record_fault; record_is_read = laws.record_is_read; one_record = laws.one_record } in
     subst (λ (es : List g.row.M-Entry.Denot). IsReplay machine head es inside.state) (sym c.new.ensures.items) (replayed machine lawful head [] inside.state inside.state refl known.may.history)
-
