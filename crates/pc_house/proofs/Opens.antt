@@ -2,6 +2,7 @@
 use Rattle.std.proofs.Common.{◌≡◌, ◌⊎◌, ℕ, suc, nat_lt, Bool, true, false, List, [], ◌∷◌, ◌++◌, length, Option, None, Some, MatchOption, Ok, Err, inl, inr, refl, sym, ap, subst, ◌∙◌, arith}
 use Rattle.std.specs.Option.{option_and_then}
 use Rattle.std.proofs.lemmas.List.{length-append}
+use Rattle.std.proofs.lemmas.Option.{none-some}
 use Rattle.pc_base.specs.Stream.{Rose}
 use Rattle.pc_account_history.specs.declared.entry.Entry.{Entry}
 use Rattle.pc_account_history.specs.History.{History, start, ◌▸◌, ◌▸▸◌}
@@ -42,13 +43,13 @@ resolved_with entry h h' old new count count' more e are =
 same_head : {M D E : Type 0} (old new : StoreState M D E) → old.renewal ≡ None → SameHistory old new → new.head ≡ old.head
 same_head old new none (as_it_was area head trail) = head
 same_head old new none (with_entry entry doubt area head trail) = head
-same_head old new none (renewed other renewal area head trail) = absurd (sym none ∙ renewal)
+same_head old new none (renewed other renewal area head trail) = absurd (none-some other (sym none ∙ renewal))
 
 -- and the trail that it had, or that with the entry in doubt
 same_trail : {M D E : Type 0} (old new : StoreState M D E) → old.renewal ≡ None → SameHistory old new → (new.trail ≡ old.trail) ⊎ MatchOption old.doubt ⊥ (λ entry. new.trail ≡ old.trail ++ entry ∷ [])
 same_trail old new none (as_it_was area head trail) = inl trail
 same_trail {E = E} old new none (with_entry entry doubt area head trail) = inr (subst (λ (o : Option E). MatchOption o ⊥ (λ entry. new.trail ≡ old.trail ++ entry ∷ [])) (sym doubt) trail)
-same_trail old new none (renewed other renewal area head trail) = absurd (sym none ∙ renewal)
+same_trail old new none (renewed other renewal area head trail) = absurd (none-some other (sym none ∙ renewal))
 
 module _ {D : Type 0} (faults : D → ℕ) (old new : DeskValue D) where
   resolved_by : (doubt : Option Entry) → MatchOption doubt ⊥ (λ entry. new.store.trail ≡ old.store.trail ++ entry ∷ []) → new.base ≡ old.base → new.store.head ≡ old.store.head → Are (latest_in new.sessions) (latest_but (dropped_if (nat_lt (length old.store.trail) (length new.store.trail)) (option_and_then dropped_by doubt)) (latest_in old.sessions)) → MatchOption doubt ⊥ (λ entry. (history_of new.base new.store ≡ (history_of old.base old.store ▸ entry)) × Are (latest_in new.sessions) (latest_after entry (latest_in old.sessions)))
@@ -68,7 +69,7 @@ module _ {D : Type 0} (faults : D → ℕ) (old new : DeskValue D) where
 
   pub opens_ok : (tells : Type 0) → (tells → new.base ≡ old.base) → new.drawn ≡ old.drawn → old.store.renewal ≡ None → (tells → SameHistory old.store new.store) → (new.store.broken ≡ false) × (new.store.doubt ≡ None) × (new.store.renewal ≡ None) → Are (latest_in new.sessions) (latest_but (dropped_if (nat_lt (length old.store.trail) (length new.store.trail)) (option_and_then dropped_by old.store.doubt)) (latest_in old.sessions)) → Opens tells (told_by faults old) (Ok tt) (told_by faults new)
   opens_ok tells base drawn none same mended are = record {
-    doubt = mended.1.0;
+    doubt = mended.1;
     broken = mended.0;
     drawn = drawn;
     resolved = λ told. resolved (base told) none (same told) are;

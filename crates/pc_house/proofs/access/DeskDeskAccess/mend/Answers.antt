@@ -27,7 +27,7 @@ invariant_of-self-inside-2 g c =
 pub invariant_of-self-2 : goal.invariant_of-self-2
 invariant_of-self-2 g c =
     let inside = c.self.inside in
-    opened_desk inside.user inside.store c.reopen.new.self inside.base _ inside.drawn inside.sessions c.forget.new.self c.self.invariant c.in_ok-reopen.ensures.replay c.in_ok-reopen.ensures.mended.1
+    opened_desk inside.user inside.store c.reopen.new.self inside.base _ inside.drawn inside.sessions c.forget.new.self c.self.invariant c.in_ok-reopen.ensures.replay (c.in_ok-reopen.ensures.mended.1, c.in_ok-reopen.ensures.mended.2)
 
 pub returns-clause-opens : goal.returns-clause-opens
 returns-clause-opens g c =
