@@ -164,7 +164,8 @@ fn stops_at_each(
     calls: u32,
     old: usize,
 ) -> Result<(), Fail>
-    requires { 2 < calls }
+    requires least { 2 < calls }
+    requires most { calls < 100 }
 {
     for choice in &CHOICES {
         for k in 1..calls - 1 {

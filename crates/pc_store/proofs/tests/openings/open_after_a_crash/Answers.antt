@@ -29,4 +29,4 @@ returns g c =
     let seen : reads disk.first disk.deeds ≡ disk.first = ap (λ (d : DiskState). reads d.first d.deeds) c.crashed.ensures.left ∙ sym first in
     let finds = λ (index : ℕ) (head : Head) (trail : List _) (opens : OpensIn g.M.Machine index head trail disk.first).
     c.open_store.ensures.only tt index head trail (subst (λ (images : Images). OpensIn g.M.Machine index head trail images) (sym seen) opens) in
-    opens_one g.M.Machine _ disk.first c.open_store.result finds (c.into_disk.ensures.leaves tt disk.first c.crashed.ensures.possible)
+    opens_one g.M.Machine c.args.store disk.first c.open_store.result finds (c.into_disk.ensures.leaves tt disk.first c.crashed.ensures.possible)
