@@ -1,6 +1,6 @@
 //! Lists, which contracts see as lists.
 
-ghost use Rattle.std.specs.Prelude.{◌≡◌, [], ◌∷◌, ◌++◌, IfOk, OnOk, OnErr};
+ghost use Rattle.std.specs.Prelude.{◌≡◌, [], ◌∷◌, ◌++◌, OnOk, OnErr};
 
 use crate::failure::Memory;
 use std::alloc::Global;
@@ -28,15 +28,6 @@ impl<T: Drop> List<T> {
         List {
             items: Vec::new(alloc),
         }
-    }
-
-    /// An empty list with room for so many.
-    pub fn with_capacity(alloc: Global, capacity: usize) -> Result<List<T>, Memory>
-        ensures { IfOk result (λ list. list ≡ []) }
-    {
-        Ok(List {
-            items: Vec::with_capacity(alloc, capacity)?,
-        })
     }
 
     /// Puts one more at the end. After `Err` nothing has changed.
