@@ -1,6 +1,6 @@
 //! Lists, which contracts see as lists.
 
-ghost use Rattle.std.specs.Prelude.{◌≡◌, [], ◌∷◌, ◌++◌, OnOk, OnErr};
+ghost use Rattle.std.specs.Prelude.{◌≡◌, [], ◌∷◌, ◌++◌, IfOk, OnOk, OnErr};
 
 use crate::failure::Memory;
 use std::alloc::Global;
@@ -30,6 +30,13 @@ impl<T: Drop> List<T> {
         }
     }
 
+    /// The list of these.
+    pub fn of(items: Vec<T>) -> List<T>
+        ensures { result ≡ items.items }
+    {
+        List { items }
+    }
+
     /// Puts one more at the end. After `Err` nothing has changed.
     pub fn push(&mut self, item: T) -> Result<(), Memory>
         ensures ok { OnOk result (self.new ≡ self.old ++ item ∷ []) }
@@ -44,5 +51,14 @@ impl<T: Drop> List<T> {
         ensures { result.now ≡ self.now }
     {
         self.items.as_slice()
+    }
+}
+
+impl<T: Copy + Drop> List<T> {
+    /// Another list of the same items.
+    pub fn copied(&self, alloc: Global) -> Result<List<T>, Memory>
+        ensures { IfOk result (λ copy. copy ≡ self.now) }
+    {
+        Ok(List::of(Vec::from_slice(alloc, self.items.as_slice())?))
     }
 }
