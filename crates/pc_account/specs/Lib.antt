@@ -5,4 +5,3 @@ pub mod LookUps
 pub mod Plan
 pub mod Taking
 pub mod Laws
-pub mod Following

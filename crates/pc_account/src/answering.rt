@@ -182,7 +182,7 @@ fn client_rows(alloc: Global, holdings: &Holdings) -> Result<ClientRows, Memory>
 fn mailbox_rows(alloc: Global, holdings: &Holdings) -> Result<MailboxRows, Memory>
     ensures { IfOk result (λ rows. rows ≡ map row_in holdings.now.held.live) }
 {
-    let mut rows = MailboxRows::with_capacity(alloc, holdings.live().count())?;
+    let mut rows = MailboxRows::new(alloc);
     for (name, mailbox) in holdings.live().table().iter() {
         rows.push(MailboxRow {
             name: *name,

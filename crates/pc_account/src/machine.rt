@@ -15,7 +15,7 @@ impl Machine for Account {
     ghost use Rattle.pc_account_holdings.specs.State.{new_state, step as stepped};
     ghost use Rattle.pc_account_records.specs.Legal.{IsLegalState, IsCanonicalState, accepts};
     ghost use Rattle.pc_account_records.specs.Numbered.{suits as suited, numbered as renumbered};
-    ghost use Rattle.pc_account.specs.Following as following;
+    ghost use Rattle.pc_account_records.proofs.Following as following;
     ghost use Rattle.pc_account_records.specs.Recorded as recorded;
 
     type Entry = Entry;

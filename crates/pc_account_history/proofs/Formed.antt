@@ -104,7 +104,7 @@ module _ (number highest : ℕ) where
   IsUpdateList-later : (more birth : ℕ) (list : List Listed) → highest ≤ more → IsUpdateList number highest birth list → IsUpdateList (suc number) more birth list
   IsUpdateList-later more birth list up h = record { in_order = h.in_order; distinct = h.distinct; changes = Every-weaker (IsChange number highest birth) (IsChange (suc number) more birth) (λ listed g. IsChange-later more birth listed up g) list h.changes }
 
-  IsUpdateList-touched : (more birth : ℕ) (uids : List ℕ) (list : List Listed) → highest ≤ more → birth ≤ number → AreUids more uids → IsUpdateList number highest birth list → IsUpdateList (suc number) more birth (touched number uids list)
+  pub IsUpdateList-touched : (more birth : ℕ) (uids : List ℕ) (list : List Listed) → highest ≤ more → birth ≤ number → AreUids more uids → IsUpdateList number highest birth list → IsUpdateList (suc number) more birth (touched number uids list)
   IsUpdateList-touched more birth uids list up born good h =
       let old = IsUpdateList-filter birth (λ (l : Listed). not (has_number l.uid uids)) list h in
       record {
@@ -158,7 +158,7 @@ module _ (number highest : ℕ) where
 
 -- ---- mails that come one after the other
 
-AreUids-numbers : (low count : ℕ) → AreUids (low + count) (numbers low count)
+pub AreUids-numbers : (low count : ℕ) → AreUids (low + count) (numbers low count)
 AreUids-numbers low count = record { rising = numbers-rise low count; given = Every-numbers (λ uid. (0 < uid) × (uid ≤ low + count)) low count (λ uid a b. (omega arith, b)) }
 
 lists-twice : (number uid : ℕ) (uids : List ℕ) (lists : List (List ℕ × List Listed)) → has_number uid uids ≡ false → map_values (touched number uids) (map_values (touched number (uid ∷ [])) lists) ≡ map_values (touched number (uid ∷ uids)) lists

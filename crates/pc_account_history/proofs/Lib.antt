@@ -18,3 +18,5 @@ pub mod Births
 pub mod Living
 pub mod LimitPassed
 pub mod AtLimits
+pub mod FullMailboxes
+pub mod FullLists

@@ -73,7 +73,7 @@ mailbox_of-all r clients change asked new =
 pub mailbox_of-has : (P : MailboxRecord → Type 0) (r : AccountRecord) (mailbox : List ℕ) → Every (λ (entry : List ℕ × MailboxRecord). P entry.1) r.live → Every (λ (entry : List ℕ × MailboxRecord). P entry.1) r.dropped → P (new_mailbox r.clients) → P (mailbox_of r mailbox)
 mailbox_of-has P r mailbox live dropped new = unwrap_or-has P (lookup (same mailbox) r.live) (unwrap_or (lookup (same mailbox) r.dropped) (new_mailbox r.clients)) (Every-found P (same mailbox) r.live live) (unwrap_or-has P (lookup (same mailbox) r.dropped) (new_mailbox r.clients) (Every-found P (same mailbox) r.dropped dropped) new)
 
-AreListsOf-new : (number highest : ℕ) (clients : List (List ℕ × ℕ)) → AreListsOf number highest clients (map_values (λ _. []) clients)
+pub AreListsOf-new : (number highest : ℕ) (clients : List (List ℕ × ℕ)) → AreListsOf number highest clients (map_values (λ _. []) clients)
 AreListsOf-new number highest [] = tt
 AreListsOf-new number highest (client ∷ clients) = (refl, record { in_order = tt; distinct = tt; changes = tt }, AreListsOf-new number highest clients)
 

@@ -1,23 +1,22 @@
 -- Small histories with what each answer must be.
-use Rattle.std.specs.Prelude.{◌≡◌, ℕ, Bool, true, false, List, [], ◌∷◌, map, length, codes, Option, Some, None, replicate}
+use Rattle.std.specs.Prelude.{◌≡◌, ℕ, Bool, true, false, List, [], ◌∷◌, map, codes, Option, Some, None, replicate}
 use Rattle.std.specs.Option.{option_map}
-use Rattle.pc_tables.specs.Table.{numbers}
+use Rattle.pc_tables.specs.Table.{numbers, map_values}
 use Rattle.pc_base.specs.declared.refusal.LimitWord.{LimitWord}
 use Rattle.pc_base.specs.declared.refusal.LimitWord.TheVariants as limit
 use Rattle.pc_account_history.specs.declared.kept.Listed.{Listed}
 use Rattle.pc_account_history.specs.declared.entry.Entry.{Entry}
 use Rattle.pc_account_history.specs.declared.entry.Entry.TheVariants.{MakeMailbox, DropMailbox, Flag, Expunge, Copy, MakeClient, DropClient, ResetClient, ResetMailbox, Forget, Pull, Password, Subscribe, Unsubscribe, Mark}
-use Rattle.pc_account_history.specs.Record.{AccountRecord, empty_record, new_mailbox, mailbox_of, list_of}
+use Rattle.pc_account_history.specs.Record.{MailboxRecord, AccountRecord, empty_record, new_mailbox, mailbox_of, list_of}
 use Rattle.pc_account_history.specs.Effect.{arrived}
-use Rattle.pc_account_history.specs.Known.{Known}
-use Rattle.pc_account_history.specs.Step.{record_of}
-use Rattle.pc_account_history.specs.Legal.{IsWellFormed, IsLegal}
+use Rattle.pc_account_history.specs.Step.{record_of, stamped}
+use Rattle.pc_account_history.specs.Legal.{IsWellFormed, IsCanonical, IsLegal}
 use Rattle.std.specs.Map.{keys_of}
 use Rattle.pc_account_history.specs.History.{History, ◌▸◌, new_account, known, birth, start}
 use Rattle.pc_account_history.specs.Allowed.{is_allowed, is_mailbox, messages}
 use Rattle.pc_message.specs.declared.descriptor.Change.TheVariants.{Present, Expunged}
 use Rattle.pc_message.specs.Descriptor.{descriptor_of}
-use Rattle.pc_message.specs.Message.{weight_of}
+use Rattle.pc_message.specs.Message.{IsSized, weight_of}
 use Rattle.pc_account_history.specs.Answers.{changed, first_changes}
 use Rattle.pc_account_history.specs.Limits.{is_passed, limit_passed, limits_of_bases, listed_count, weight}
 
@@ -193,21 +192,25 @@ SubscribedAgain = ((known (enrolled ▸ Subscribe work ▸ Subscribe box ▸ Mar
 abbrev pub names : ℕ → List (List ℕ)
 names count = map (λ letter. 110 ∷ letter ∷ []) (numbers 47 count)
 
+-- so many clients, each born by the entry whose number is in its name, the first by the one after this
+abbrev pub born_after : ℕ → ℕ → List (List ℕ × ℕ)
+born_after low count = map (λ birth. (110 ∷ birth ∷ [], birth)) (numbers low count)
+
 -- a record with 16 clients and 64 subscriptions
 abbrev pub full_record : AccountRecord
-full_record = record empty_record { clients = map (λ name. (name, 1)) (names 16); subscriptions = map (λ name. (name, 0)) (names 64) }
+full_record = record empty_record { clients = born_after 47 16; subscriptions = map (λ name. (name, 0)) (names 64) }
 
 -- a record with one mailbox in which so many uids were given
 abbrev pub one_mailbox : ℕ → AccountRecord
 one_mailbox highest = record empty_record { live = (work, record { highest = highest; messages = arrived 1 note ∷ []; lists = [] }) ∷ [] }
 
--- where several limits would be passed the first in their order is told, and an entry meets the limits that it can pass and no other
+-- an entry meets the limits that it can pass and no other
 abbrev pub FirstLimit : Type 0
-FirstLimit = (limit_passed (known (start full_record 9)) (MakeClient box) ≡ Some limit.Clients)
-    × (limit_passed (known (start full_record 9)) (Subscribe box) ≡ Some limit.Subscriptions)
-    × (limit_passed (known (start full_record 9)) (MakeMailbox box) ≡ None)
-    × (limit_passed (known (start full_record 9)) (Password []) ≡ None)
-    × (limit_passed (known (start (record empty_record { live = map (λ name. (name, new_mailbox [])) (names 40); dropped = map (λ name. (name, new_mailbox [])) (names 24) }) 9)) (MakeMailbox box) ≡ Some limit.Mailboxes)
+FirstLimit = (limit_passed (known (start full_record 99)) (MakeClient box) ≡ Some limit.Clients)
+    × (limit_passed (known (start full_record 99)) (Subscribe box) ≡ Some limit.Subscriptions)
+    × (limit_passed (known (start full_record 99)) (MakeMailbox box) ≡ None)
+    × (limit_passed (known (start full_record 99)) (Password []) ≡ None)
+    × (limit_passed (known (start (record empty_record { live = map (λ name. (name, new_mailbox [])) (names 63); dropped = (work, new_mailbox []) ∷ [] }) 9)) (MakeMailbox box) ≡ Some limit.Mailboxes)
     × (is_passed (known (start (one_mailbox 1000000000) 9 ▸ Copy work 1 work)) limit.Uids ≡ true)
     × (is_passed (known (start (one_mailbox 999999999) 9 ▸ Copy work 1 work)) limit.Uids ≡ false)
     × (listed_count (known flag_between) ≡ 6)
@@ -343,9 +346,9 @@ BoundsOfPulls = (allows mixed_pull (Pull 7 (notes_to box 1) ∷ Pull 8 (notes_to
 
 -- a client or a subscription less makes room for another, a deleted mailbox doesn't
 abbrev pub RoomAgain : Type 0
-RoomAgain = (passes (start full_record 9 ▸ DropClient (110 ∷ 48 ∷ [])) (MakeClient box ∷ []) ≡ None ∷ [])
-    × (passes (start full_record 9 ▸ DropClient (110 ∷ 48 ∷ []) ▸ MakeClient box) (MakeClient work ∷ []) ≡ Some limit.Clients ∷ [])
-    × (passes (start full_record 9 ▸ Unsubscribe (110 ∷ 48 ∷ [])) (Subscribe box ∷ []) ≡ None ∷ [])
+RoomAgain = (passes (start full_record 99 ▸ DropClient (110 ∷ 48 ∷ [])) (MakeClient box ∷ []) ≡ None ∷ [])
+    × (passes (start full_record 99 ▸ DropClient (110 ∷ 48 ∷ []) ▸ MakeClient box) (MakeClient work ∷ []) ≡ Some limit.Clients ∷ [])
+    × (passes (start full_record 99 ▸ Unsubscribe (110 ∷ 48 ∷ [])) (Subscribe box ∷ []) ≡ None ∷ [])
     × (passes (start (record empty_record { live = map (λ name. (name, new_mailbox [])) (names 64) }) 9 ▸ DropMailbox (110 ∷ 48 ∷ [])) (MakeMailbox (110 ∷ 48 ∷ []) ∷ MakeMailbox box ∷ []) ≡ None ∷ Some limit.Mailboxes ∷ [])
 
 -- a name that begins as another is another
@@ -385,42 +388,72 @@ NoBases = IsLegal (start (record_with (1 ∷ 3 ∷ []) (change 3 4 ∷ change 2 
 
 -- ---- at the limits
 
--- what is known of an account with one mailbox in which so many messages live
-abbrev pub with_messages : ℕ → Known
-with_messages count = record (known (start (one_mailbox count) 9)) { kept = λ mailbox uid. Some (arrived uid []) }
+-- this record passes a limit, and is well formed before entry 99
+abbrev pub PassesLimit : AccountRecord → Type 0
+PassesLimit r = IsWellFormed r 99 × (IsCanonical r 99 → ⊥)
 
--- 4,096 messages live in a mailbox and no more
+-- a mailbox in which so many copies of a message live
+abbrev pub copies : ℕ → List (List ℕ) → MailboxRecord
+copies count message = record { highest = count; messages = map (λ uid. arrived uid message) (numbers 0 count); lists = [] }
+
+-- a record with so many copies of a message in one mailbox, and a message in another
+abbrev pub with_copies : ℕ → List (List ℕ) → List (List ℕ) → AccountRecord
+with_copies count message other = record empty_record { live = (work, copies count message) ∷ (box, copies 1 other) ∷ [] }
+
+-- 4,096 messages are the most that live in a mailbox of a base
 abbrev pub MessagesAtLimit : Type 0
-MessagesAtLimit = (limit_passed (with_messages 4095) (Copy work 1 work) ≡ None)
-    × (limit_passed (with_messages 4096) (Copy work 1 work) ≡ Some limit.Messages)
-    × (limit_passed (with_messages 4094) (Pull 1 (notes_to work 2)) ≡ None)
-    × (limit_passed (with_messages 4095) (Pull 1 (notes_to work 2)) ≡ Some limit.Messages)
+MessagesAtLimit = IsCanonical (with_copies 4096 note note) 99 × PassesLimit (with_copies 4097 note note)
 
--- all messages count 16 MiB and no more, each its size and 256 bytes
+-- 4,096 messages live in a mailbox: no more come into it, but into another one
+abbrev pub MailboxIsFull : Type 0
+MailboxIsFull = (count : ℕ)
+    → (count ≡ 4095 → passes (start (with_copies count note note) 99) (Copy box 1 work ∷ Pull 1 (notes_to work 1) ∷ Pull 1 (notes_to work 2) ∷ []) ≡ None ∷ None ∷ Some limit.Messages ∷ [])
+    × (count ≡ 4096 → passes (start (with_copies count note note) 99) (Copy box 1 work ∷ Pull 1 (notes_to work 1) ∷ Pull 1 (notes_to box 2) ∷ []) ≡ Some limit.Messages ∷ Some limit.Messages ∷ None ∷ [])
+
+-- a message of 640 lines, the first of this length and the others of 100 bytes
+abbrev pub long_message : ℕ → List (List ℕ)
+long_message first = replicate first 97 ∷ replicate 639 (replicate 100 97)
+
+-- a message may count 65,536, its size and 256 bytes, or a byte more
+abbrev pub LongMessages : Type 0
+LongMessages = IsSized (long_message 100) 65280 × IsSized (long_message 101) 65281
+
+-- 16 MiB are the most that all messages of a base count: 256 that count 65,536 each
 abbrev pub WeightAtLimit : Type 0
-WeightAtLimit = (message : List (List ℕ))
-    → (weight_of message ≡ 16777216 → passes enrolled (Pull 1 ((box, message) ∷ []) ∷ []) ≡ None ∷ [])
-    × (weight_of message ≡ 16777217 → passes enrolled (Pull 1 ((box, message) ∷ []) ∷ []) ≡ Some limit.Bytes ∷ [])
-    × (weight_of message ≡ 8388608 → passes enrolled (Pull 2 ((box, message) ∷ (box, message) ∷ []) ∷ []) ≡ None ∷ [])
-    × (weight_of message ≡ 8388609 → passes enrolled (Pull 2 ((box, message) ∷ (box, message) ∷ []) ∷ []) ≡ Some limit.Bytes ∷ [])
+WeightAtLimit = (message longer : List (List ℕ))
+    → weight_of message ≡ 65536
+    → weight_of longer ≡ 65537
+    → IsCanonical (with_copies 255 message message) 99 × PassesLimit (with_copies 255 message longer)
 
--- a record of a client and so many others, with a message in a mailbox where the first client has this list
-abbrev pub with_list : ℕ → List Listed → AccountRecord
-with_list others list = record empty_record {
-  clients = (first_client, 1) ∷ map (λ name. (name, 1)) (names others);
-  live = (work, record { highest = 1; messages = arrived 1 note ∷ []; lists = (first_client, list) ∷ [] }) ∷ [];
+-- all messages count 16 MiB less 65,536: one that counts as much may come, by a copy or a pull, and none that counts more
+abbrev pub AccountIsFull : Type 0
+AccountIsFull = (count : ℕ) (message longer : List (List ℕ))
+    → count ≡ 254
+    → weight_of message ≡ 65536
+    → weight_of longer ≡ 65537
+    → passes (start (with_copies count message message) 99) (Copy box 1 work ∷ Pull 1 ((work, message) ∷ []) ∷ Pull 1 ((work, longer) ∷ []) ∷ Pull 1 ((work, message) ∷ (box, message) ∷ []) ∷ []) ≡ None ∷ None ∷ Some limit.Bytes ∷ Some limit.Bytes ∷ []
+
+-- a record of a client that has taken none of so many changes, and of so many others that have taken all
+abbrev pub untaken : ℕ → ℕ → AccountRecord
+untaken others count = record empty_record {
+  clients = (first_client, 1) ∷ born_after 1 others;
+  live = (work, record { highest = count; messages = arrived 1 note ∷ []; lists = (first_client, stamped 98 (numbers 0 count)) ∷ map_values (λ _. []) (born_after 1 others) }) ∷ [];
 }
 
--- 1,048,576 changes are on all lists and no more; an entry that lists nothing isn't held to that
+-- 1,048,576 changes are the most on all lists of a base; no entry may list one more, and an entry that lists nothing isn't held to that
 abbrev pub ChangesAtLimit : Type 0
-ChangesAtLimit = (list : List Listed)
-    → (length list ≡ 1048575 → passes (start (with_list 1 list) 9) (MakeClient box ∷ ResetClient (110 ∷ 48 ∷ []) ∷ []) ≡ None ∷ None ∷ [])
-    × (length list ≡ 1048576 → passes (start (with_list 1 list) 9) (MakeClient box ∷ ResetClient (110 ∷ 48 ∷ []) ∷ MakeMailbox box ∷ []) ≡ Some limit.Changes ∷ Some limit.Changes ∷ None ∷ [])
+ChangesAtLimit = (count : ℕ)
+    → (count ≡ 1048575 → passes (start (untaken 1 count) 99) (MakeClient box ∷ ResetClient (110 ∷ 2 ∷ []) ∷ []) ≡ None ∷ None ∷ [])
+    × (count ≡ 1048576 → IsCanonical (untaken 1 count) 99 × (passes (start (untaken 1 count) 99) (MakeClient box ∷ ResetClient (110 ∷ 2 ∷ []) ∷ MakeMailbox box ∷ []) ≡ Some limit.Changes ∷ Some limit.Changes ∷ None ∷ []))
+    × (count ≡ 1048577 → PassesLimit (untaken 1 count))
 
--- a seventeenth client would pass two limits: the first is told; a sixteenth would pass the other alone
+-- in a legal history of 16 clients the entry that makes a seventeenth is allowed and passes two limits, of which the first is told;
+-- one that makes a sixteenth passes the other alone
 abbrev pub TwoLimits : Type 0
-TwoLimits = (list : List Listed)
-    → length list ≡ 1048576
-    → (map (is_passed (known (start (with_list 15 list) 9 ▸ MakeClient box))) limits_of_bases ≡ true ∷ false ∷ false ∷ false ∷ false ∷ true ∷ false ∷ [])
-    × (passes (start (with_list 15 list) 9) (MakeClient box ∷ []) ≡ Some limit.Clients ∷ [])
-    × (passes (start (with_list 14 list) 9) (MakeClient box ∷ []) ≡ Some limit.Changes ∷ [])
+TwoLimits = (count : ℕ)
+    → count ≡ 1048576
+    → IsLegal (start (untaken 15 count) 99)
+    × (allows (start (untaken 15 count) 99) (MakeClient box ∷ []) ≡ true ∷ [])
+    × (map (is_passed (known (start (untaken 15 count) 99 ▸ MakeClient box))) limits_of_bases ≡ true ∷ false ∷ false ∷ false ∷ false ∷ true ∷ false ∷ [])
+    × (passes (start (untaken 15 count) 99) (MakeClient box ∷ []) ≡ Some limit.Clients ∷ [])
+    × (passes (start (untaken 14 count) 99) (MakeClient box ∷ []) ≡ Some limit.Changes ∷ [])

@@ -1,7 +1,7 @@
 //! Small histories, with what their answers must be. Each law is the contract of a function that does nothing.
 
 ghost use Rattle.pc_account_history.specs.Samples.{FlagBetween, NothingTwice, TouchedAgain, ExpungeIsSeen, MadeAgain, CopyIsNotDeleted, ClientAgain, ResetOfOne, SubscribedAgain, FirstLimit, SamplesAreLegal, RecordOfMadeAgain, LettersInOrder, ClientsInOrder, GoneStaysGone, CopyOfCopy, WhileGone, ResetAndGone, ResetsApart, BaseGoesOn, BoundsOfPulls, RoomAgain, NamesApart, NoBases};
-ghost use Rattle.pc_account_history.specs.Samples.{MessagesAtLimit, WeightAtLimit, ChangesAtLimit, TwoLimits};
+ghost use Rattle.pc_account_history.specs.Samples.{MessagesAtLimit, MailboxIsFull, LongMessages, WeightAtLimit, AccountIsFull, ChangesAtLimit, TwoLimits};
 
 /// A client is shown five changes, a flag is set, and the client takes what it was shown: the flagged one stays listed.
 pub fn a_flag_between()
@@ -48,7 +48,7 @@ pub fn subscribed_again()
     ensures { SubscribedAgain }
 {}
 
-/// The limits have an order.
+/// Which limits an entry meets.
 pub fn first_limit()
     ensures { FirstLimit }
 {}
@@ -128,9 +128,24 @@ pub fn messages_at_limit()
     ensures { MessagesAtLimit }
 {}
 
+/// A mailbox into which no more messages come.
+pub fn mailbox_is_full()
+    ensures { MailboxIsFull }
+{}
+
+/// There are messages as long as the next two samples have them.
+pub fn long_messages()
+    ensures { LongMessages }
+{}
+
 /// The most that all messages may weigh.
 pub fn weight_at_limit()
     ensures { WeightAtLimit }
+{}
+
+/// An account into which no more weight comes.
+pub fn account_is_full()
+    ensures { AccountIsFull }
 {}
 
 /// The most changes on all lists.

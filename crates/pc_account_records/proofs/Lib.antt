@@ -3,3 +3,4 @@ mod ReadMailboxes
 mod ReadRecord
 mod ReadTables
 mod Written
+pub mod Following

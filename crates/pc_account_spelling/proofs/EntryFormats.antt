@@ -14,13 +14,13 @@ use Rattle.pc_account_spelling.specs.Spelling.{letter_fields, parts_of, fields_o
 use Rattle.pc_fields.specs.Fitting.{is_u32, is_message}
 use Rattle.pc_account_spelling.specs.EntryForm.{is_letter, entry_fits}
 use Rattle.pc_fields.specs.Fields.{within}
-use Rattle.pc_fields.specs.Format.{Format, ends, bind, repeated}
+use Rattle.pc_fields.specs.Format.{Format, ends, bind, repeated, ReadsAs, IsOpen}
 use Rattle.pc_fields.specs.MessageFormat.{message_format}
 use Rattle.pc_account_spelling.specs.EntryFormat.{letter_format, uid_format, named_format, flag_format, copy_format, reset_mailbox_format, forget_format, pull_format, password_format, mark_format, parts_format, entry_format}
 use Rattle.pc_fields.proofs.Good.{good_open, good_reads}
 use Rattle.pc_fields.proofs.GoodMessage.{IsReadMessage, good_message}
 use Rattle.pc_fields.proofs.ReadsMessage.{reads_message}
-use Rattle.pc_fields.proofs.Formats.{ReadsAs, reads_bind, ending, bind_reads, IsOpen, open_bind, open_repeated}
+use Rattle.pc_fields.proofs.Formats.{reads_bind, ending, bind_reads, open_bind, open_repeated}
 
 -- a number of four bytes
 u32_within : (n : ℕ) → IsTrue (is_u32 n) → IsTrue (within 0 4294967295 n)

@@ -12,19 +12,21 @@ use Rattle.pc_fields.specs.FieldBytes.{u8_field, bool_field, u16_field, u32_fiel
 use Rattle.pc_account_spelling.specs.Spelling.{letter_fields, parts_of}
 use Rattle.pc_fields.specs.Fitting.{is_u32, is_message}
 use Rattle.pc_account_spelling.specs.EntryForm.{is_letter, entry_fits}
-use Rattle.pc_account_spelling.specs.Laws.{OneEntry, EntryIsRead, OneEntryFault, most_bytes, forgotten, EntryLength, EntryIsShort}
+use Rattle.pc_account_spelling.specs.Laws.{most_bytes, forgotten, EntryLength, EntryIsShort}
 use Rattle.pc_fields.proofs.Loops.{concat-append}
 use Rattle.pc_fields.proofs.Spelled.{one-value, is-read, one-fault}
 use Rattle.pc_fields.proofs.FieldLengths.{u16-long, u32-long, u64-long, name-short, lines-long}
-use Rattle.pc_account_spelling.proofs.Spelled.{entries, entries-spelled}
+use Rattle.pc_account_spelling.proofs.Spelled.{entries-spelled}
+use Rattle.pc_account_spelling.specs.Spelled.{entries}
+use Rattle.pc_fields.specs.Spelled.{OneValue, IsRead, OneFault}
 
-pub one-entry : OneEntry
+pub one-entry : OneValue entries
 one-entry = one-value entries entries-spelled
 
-pub entry-is-read : EntryIsRead
+pub entry-is-read : IsRead entries
 entry-is-read = is-read entries entries-spelled
 
-pub one-entry-fault : OneEntryFault
+pub one-entry-fault : OneFault entries
 one-entry-fault = one-fault entries entries-spelled
 
 letter-long : (letter : List ℕ × List (List ℕ)) → IsTrue (is_letter letter) → length (concat (letter_fields letter)) ≤ 65573

@@ -12,8 +12,8 @@ use Rattle.pc_fields.specs.Fields.{within}
 use Rattle.pc_fields.specs.Fitting.{is_u32}
 use Rattle.pc_account_spelling.specs.RecordForm.{is_entry_number, listed_fits}
 use Rattle.pc_account_spelling.specs.RecordFormat.{last_number, least_stamp, above, is_listed, can_follow, changes_from}
-use Rattle.pc_fields.proofs.Formats.{ReadsAs}
 use Rattle.pc_fields.proofs.Pushes.{is-within}
+use Rattle.pc_fields.specs.Format.{ReadsAs}
 
 -- ---- how many distinct uids there can be above one
 

@@ -15,8 +15,9 @@ use Rattle.pc_fields.specs.MessageFormat.{message_within}
 use Rattle.pc_account_spelling.specs.RecordForm.{kept_fits}
 use Rattle.pc_account_spelling.specs.RecordFormat.{messages_from}
 use Rattle.pc_fields.proofs.ReadsMessage.{reads_message}
-use Rattle.pc_fields.proofs.Formats.{ReadsAs, reads_bind}
+use Rattle.pc_fields.proofs.Formats.{reads_bind}
 use Rattle.pc_fields.proofs.Pushes.{is-within}
+use Rattle.pc_fields.specs.Format.{ReadsAs}
 
 -- uids that rise have room below the highest one
 pub rising-room : (highest uid : ℕ) (messages : List Kept) → uid ≤ highest → Every (λ (kept : Kept). uid < kept.uid) messages → Ordered (λ (kept later : Kept). kept.uid < later.uid) messages → Every (λ (kept : Kept). kept.uid ≤ highest) messages → uid + length messages ≤ highest

@@ -23,11 +23,11 @@ use Rattle.pc_tables.proofs.Totals.{total-append}
 use Rattle.pc_fields.specs.FieldBytes.{u32_field, u64_field, short_list}
 use Rattle.pc_account_spelling.specs.Spelling.{digest_fields, client_fields, kept_fields, listed_fields, update_list_fields, mailbox_fields, mailboxes_fields, subscription_fields, fields_of_record}
 use Rattle.pc_fields.specs.Fields.{u16_kind, within, is_new}
-use Rattle.pc_fields.specs.Format.{ends, goes, bind}
+use Rattle.pc_fields.specs.Format.{ends, goes, bind, ReadsAs}
 use Rattle.pc_fields.specs.Fitting.{is_u32}
 use Rattle.pc_account_spelling.specs.RecordForm.{is_digest, is_entry_number, client_fits, kept_fits, listed_fits, list_fits, mailbox_fits, subscription_fits, CanBeSaved}
 use Rattle.pc_account_spelling.specs.RecordFormat.{last_number, digest_format, clients_from, clients_format, messages_from, changes_from, lists_from, mailbox_format, weight_under, changes_under, mailboxes_from, mailboxes_format, subscriptions_from, subscriptions_format, record_format}
-use Rattle.pc_fields.proofs.Formats.{ReadsAs, reads_bind}
+use Rattle.pc_fields.proofs.Formats.{reads_bind}
 use Rattle.pc_fields.proofs.Pushes.{is-within}
 use Rattle.pc_account_spelling.proofs.GoodMailboxes.{Table, weight_of_box, changes_of_box, box_fields}
 use Rattle.pc_account_spelling.proofs.GoodRecord.{with_subscriptions, with_mailboxes, with_clients}

@@ -1,11 +1,11 @@
--- The entries and the records of an account as they are spelled.
+-- The entries and the records of an account are read from their own fields and from no other.
 use Rattle.std.proofs.Common.{IsTrue, []}
 use Rattle.pc_account_history.specs.declared.entry.Entry.{Entry}
 use Rattle.pc_account_history.specs.Record.{AccountRecord}
 use Rattle.pc_account_history.specs.Legal.{IsCanonical}
-use Rattle.pc_fields.specs.Spelled.{Spelling}
+use Rattle.pc_fields.specs.Spelled.{Spells}
 use Rattle.pc_fields.proofs.Good.{good_reads}
-use Rattle.pc_fields.proofs.Spelled.{Spells, good_spells}
+use Rattle.pc_fields.proofs.Spelled.{good_spells}
 use Rattle.pc_account_spelling.specs.Spelling.{fields_of, fields_of_record}
 use Rattle.pc_account_spelling.specs.EntryForm.{entry_fits}
 use Rattle.pc_account_spelling.specs.EntryFormat.{entry_format}
@@ -14,15 +14,10 @@ use Rattle.pc_account_spelling.specs.RecordFormat.{record_format}
 use Rattle.pc_account_spelling.proofs.EntryFormats.{entry_reads, reads_entry, entry_open}
 use Rattle.pc_account_spelling.proofs.GoodRecord.{IsReadRecord, good_record}
 use Rattle.pc_account_spelling.proofs.ReadsRecord.{reads_record}
-
-abbrev pub entries : Spelling Entry
-entries = record { format = entry_format; fields = fields_of; fits = λ entry. IsTrue (entry_fits entry) }
+use Rattle.pc_account_spelling.specs.Spelled.{entries, records}
 
 pub entries-spelled : Spells entries
 entries-spelled = record { reads = entry_reads; back = reads_entry; goes_on = entry_open }
-
-abbrev pub records : Spelling AccountRecord
-records = record { format = record_format; fields = fields_of_record; fits = CanBeSaved }
 
 pub records-spelled : Spells records
 records-spelled = good_spells records IsReadRecord good_record (λ fields r is. (record { number = 9223372036854775808; canonical = is.canonical; fits = is.fits }, is.spelled)) reads_record

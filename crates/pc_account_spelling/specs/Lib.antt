@@ -5,3 +5,4 @@ pub mod RecordForm
 pub mod RecordFormat
 pub mod RecordLaws
 pub mod Spelling
+pub mod Spelled

@@ -30,13 +30,11 @@ impl<T: Drop> List<T> {
         }
     }
 
-    /// An empty list with room for so many.
-    pub fn with_capacity(alloc: Global, capacity: usize) -> Result<List<T>, Memory>
-        ensures { IfOk result (λ list. list ≡ []) }
+    /// The list of these.
+    pub fn of(items: Vec<T>) -> List<T>
+        ensures { result ≡ items.items }
     {
-        Ok(List {
-            items: Vec::with_capacity(alloc, capacity)?,
-        })
+        List { items }
     }
 
     /// Puts one more at the end. After `Err` nothing has changed.
@@ -53,5 +51,14 @@ impl<T: Drop> List<T> {
         ensures { result.now ≡ self.now }
     {
         self.items.as_slice()
+    }
+}
+
+impl<T: Copy + Drop> List<T> {
+    /// Another list of the same items.
+    pub fn copied(&self, alloc: Global) -> Result<List<T>, Memory>
+        ensures { IfOk result (λ copy. copy ≡ self.now) }
+    {
+        Ok(List::of(Vec::from_slice(alloc, self.items.as_slice())?))
     }
 }

@@ -5,7 +5,7 @@ use Rattle.std.specs.Result.{IsErr, IsErrAnd}
 use Rattle.std.proofs.lemmas.List.{append-nil, append_cancel_left, length-append, nil_from_length}
 use Rattle.pc_fields.specs.Fault.{GoesOn, IsFirstFault}
 use Rattle.pc_fields.specs.Fields.{Kind, Held, fits, field_of, Takes, FieldOutcome, FieldReads}
-use Rattle.pc_fields.specs.Format.{Format, ends, goes, bind, repeated, Took, Stuck, Outcome, Reads}
+use Rattle.pc_fields.specs.Format.{Format, ends, goes, bind, repeated, Took, Stuck, Outcome, Reads, ReadsAs, IsOpen}
 use Rattle.pc_fields.specs.declared.cursor.Halt.{Halt}
 use Rattle.pc_fields.specs.declared.cursor.Halt.TheVariants.{NoField, Memory}
 use Rattle.pc_fields.proofs.Values.{same_value}
@@ -72,18 +72,9 @@ pub no_part : {X Y : Type 0} {format : Format X} (next : X → Format Y) {old ne
     → Reads format old new (Err halt) → IsErr result × IsErrAnd result (λ made. made ≡ halt) → Reads (bind format next) old new result
 no_part {X} {Y} {format} next {old} {new} {halt} {result} none same = record { told = no_part_told format next old new halt result none.told same.0 same.1 }
 
--- fields that are read as a value
-abbrev pub ReadsAs : {X : Type 0} → Format X → List (List ℕ) → X → Type 0
-ReadsAs (ends value) fields result = (fields ≡ []) × (result ≡ value)
-ReadsAs (goes kind test format) fields result = (value : Held kind) × (rest : List (List ℕ)) × IsTrue (fits kind value) × IsTrue (test value) × (fields ≡ field_of kind value ∷ rest) × ReadsAs (format value) rest result
-
+-- fields that are read as some value
 abbrev pub Whole : {X : Type 0} → Format X → List (List ℕ) → Type 0
 Whole {X} format fields = (result : X) × ReadsAs format fields result
-
--- whatever was read, a field of each kind that is asked for can go on
-abbrev pub IsOpen : {X : Type 0} → Format X → Type 0
-IsOpen (ends value) = Unit {0}
-IsOpen (goes kind test format) = (sample : Held kind) × IsTrue (fits kind sample) × IsTrue (test sample) × ((value : Held kind) → IsTrue (fits kind value) → IsTrue (test value) → IsOpen (format value))
 
 pub open_whole : {X : Type 0} (format : Format X) → IsOpen format → (fields : List (List ℕ)) × Whole format fields
 open_whole (ends value) is = ([], (value, (refl, refl)))

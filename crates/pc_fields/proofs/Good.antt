@@ -2,8 +2,7 @@
 use Rattle.std.proofs.Common.{ℕ, List, [], ◌∷◌, ◌++◌, IsTrue, sym, ap, subst, ◌∙◌, append_assoc}
 use Rattle.std.proofs.lemmas.List.{append-nil}
 use Rattle.pc_fields.specs.Fields.{Held, fits, field_of}
-use Rattle.pc_fields.specs.Format.{Format, ends, goes, bind}
-use Rattle.pc_fields.proofs.Formats.{ReadsAs, IsOpen}
+use Rattle.pc_fields.specs.Format.{Format, ends, goes, bind, ReadsAs, IsOpen}
 
 abbrev pub Good : {X : Type 0} → (List (List ℕ) → X → Type 0) → Format X → List (List ℕ) → Type 0
 Good Q (ends value) front = Q front value

@@ -6,10 +6,10 @@ use Rattle.std.proofs.lemmas.List.{append-nil}
 use Rattle.pc_base.specs.Line.{is_line}
 use Rattle.pc_message.specs.Message.{size_of}
 use Rattle.pc_fields.specs.FieldBytes.{line_field, message_fields}
-use Rattle.pc_fields.specs.Format.{ends, bind}
+use Rattle.pc_fields.specs.Format.{ends, bind, ReadsAs}
 use Rattle.pc_fields.specs.Fitting.{is_message}
 use Rattle.pc_fields.specs.MessageFormat.{lines_format, message_within}
-use Rattle.pc_fields.proofs.Formats.{ReadsAs, reads_bind}
+use Rattle.pc_fields.proofs.Formats.{reads_bind}
 use Rattle.pc_fields.proofs.Pushes.{is-within}
 
 -- how many lines a message of this size has

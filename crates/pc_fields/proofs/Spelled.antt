@@ -3,19 +3,13 @@ use Rattle.std.proofs.Common.{◌≡◌, ℕ, zero, suc, ◌-◌, ◌<◌, ◌�
 use Rattle.std.specs.List.{concat}
 use Rattle.std.proofs.lemmas.List.{append-nil, length-append, nil_from_length}
 use Rattle.pc_base.specs.declared.failure.ReadFault.{ReadFault}
-use Rattle.pc_fields.specs.Format.{Took, Stuck, Reads}
+use Rattle.pc_fields.specs.Format.{Took, Stuck, Reads, ReadsAs}
 use Rattle.pc_fields.specs.Ending.{IsWithin, ended}
-use Rattle.pc_fields.specs.Spelled.{Spelling, spelled, IsOne, IsFault, OneValue, IsRead, OneFault, IsReadOf}
+use Rattle.pc_fields.specs.Spelled.{Spelling, Spells, spelled, IsOne, IsFault, OneValue, IsRead, OneFault, IsReadOf}
 use Rattle.pc_fields.specs.declared.cursor.Halt.{Halt}
 use Rattle.pc_fields.specs.declared.cursor.Halt.TheVariants.{NoField, Memory}
-use Rattle.pc_fields.proofs.Formats.{ReadsAs, Whole, IsOpen, took_fields, stuck_stops, ends_there, one_value, no_fault, one_fault, same_faults}
+use Rattle.pc_fields.proofs.Formats.{Whole, took_fields, stuck_stops, ends_there, one_value, no_fault, one_fault, same_faults}
 use Rattle.pc_fields.proofs.Good.{Good, good_open, good_reads}
-
--- a value is read from its own fields and from no other, and at each field some value goes on
-pub record Spells {X : Type 0} (s : Spelling X) : Type 0 where
-  pub reads : (x : X) → s.fits x → ReadsAs s.format (s.fields x) x
-  pub back : (fields : List (List ℕ)) (x : X) → ReadsAs s.format fields x → s.fits x × (fields ≡ s.fields x)
-  pub goes_on : IsOpen s.format
 
 -- so it is where what is read is good
 pub good_spells : {X : Type 0} (s : Spelling X) (Q : List (List ℕ) → X → Type 0) → Good Q s.format [] → ((fields : List (List ℕ)) (x : X) → Q fields x → s.fits x × (fields ≡ s.fields x)) → ((x : X) → s.fits x → ReadsAs s.format (s.fields x) x) → Spells s

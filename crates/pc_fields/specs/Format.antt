@@ -1,6 +1,6 @@
 -- What is read field by field: the next field depends on what was read before.
-use Rattle.std.specs.Prelude.{◌≡◌, ℕ, zero, suc, Bool, List, [], ◌∷◌, Result, Ok, Err, ◌⊎◌}
-use Rattle.pc_fields.specs.Fields.{Kind, name_kind, u32_kind, Held, any, within, Takes, NoneIsAt}
+use Rattle.std.specs.Prelude.{◌≡◌, ℕ, zero, suc, Bool, IsTrue, List, [], ◌∷◌, Result, Ok, Err, ◌⊎◌}
+use Rattle.pc_fields.specs.Fields.{Kind, name_kind, u32_kind, Held, fits, field_of, any, within, Takes, NoneIsAt}
 use Rattle.pc_fields.specs.declared.cursor.Halt.{Halt}
 use Rattle.pc_fields.specs.declared.cursor.Halt.TheVariants.{NoField, Memory}
 
@@ -43,3 +43,13 @@ Outcome format old new (Err Memory) = Unit {0}
 
 pub record Reads {X : Type 0} (format : Format X) (old new : List ℕ) (result : Result X Halt) : Type 0 where
   pub told : Outcome format old new result
+
+-- fields that are read as a value
+abbrev pub ReadsAs : {X : Type 0} → Format X → List (List ℕ) → X → Type 0
+ReadsAs (ends value) fields result = (fields ≡ []) × (result ≡ value)
+ReadsAs (goes kind test format) fields result = (value : Held kind) × (rest : List (List ℕ)) × IsTrue (fits kind value) × IsTrue (test value) × (fields ≡ field_of kind value ∷ rest) × ReadsAs (format value) rest result
+
+-- whatever was read, a field of each kind that is asked for can go on
+abbrev pub IsOpen : {X : Type 0} → Format X → Type 0
+IsOpen (ends value) = Unit {0}
+IsOpen (goes kind test format) = (sample : Held kind) × IsTrue (fits kind sample) × IsTrue (test sample) × ((value : Held kind) → IsTrue (fits kind value) → IsTrue (test value) → IsOpen (format value))

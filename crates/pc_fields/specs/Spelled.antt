@@ -4,13 +4,19 @@ use Rattle.std.specs.List.{concat}
 use Rattle.pc_base.specs.Machine.{FaultAt}
 use Rattle.pc_base.specs.declared.failure.ReadFault.{ReadFault}
 use Rattle.pc_fields.specs.Fault.{IsFirstFault}
-use Rattle.pc_fields.specs.Format.{Format}
+use Rattle.pc_fields.specs.Format.{Format, ReadsAs, IsOpen}
 
 -- how values are read, which fields each has, and which can be written
 pub record Spelling (X : Type 0) : Type 1 where
   pub format : Format X
   pub fields : X → List (List ℕ)
   pub fits : X → Type 0
+
+-- a value is read from its own fields and from no other, and at each field some value goes on
+pub record Spells {X : Type 0} (s : Spelling X) : Type 0 where
+  pub reads : (x : X) → s.fits x → ReadsAs s.format (s.fields x) x
+  pub back : (fields : List (List ℕ)) (x : X) → ReadsAs s.format fields x → s.fits x × (fields ≡ s.fields x)
+  pub goes_on : IsOpen s.format
 
 -- the bytes of a value
 abbrev pub spelled : {X : Type 0} → Spelling X → X → List ℕ

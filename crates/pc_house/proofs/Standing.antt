@@ -10,7 +10,7 @@ use Rattle.pc_account_holdings.specs.State.{State, StandsFor, step}
 use Rattle.pc_account_records.specs.Legal.{accepts}
 use Rattle.pc_account_records.specs.Numbered.{suits, numbered}
 use Rattle.pc_account_records.specs.Recorded.{numbered_is_legal}
-use Rattle.pc_account.specs.Following.{accepts-parts}
+use Rattle.pc_account_records.proofs.Following.{accepts-parts}
 use Rattle.pc_account.proofs.Standing.{StandsFor-step}
 use Rattle.pc_account.specs.contracts.machine.AccountMachine.TheImpl.{ghosts as machine}
 use Rattle.pc_base.specs.declared.store_fault.CommitFault.{CommitFault}

@@ -6,3 +6,4 @@ pub mod Trails
 pub mod Appends
 pub mod Finds
 pub mod Makings
+pub mod Untouched

@@ -9,9 +9,9 @@ use Rattle.pc_office_history.specs.declared.entry.OfficeEntry.{OfficeEntry}
 use Rattle.pc_office_history.specs.declared.entry.OfficeEntry.TheVariants.{AddUser, AddBoard, TakeAddress, DropAddress, Accept, Pulled}
 use Rattle.pc_fields.specs.FieldBytes.{u8_field, name_field, message_fields}
 use Rattle.pc_fields.specs.Fitting.{is_message}
-use Rattle.pc_fields.specs.Format.{Format, ends, bind}
+use Rattle.pc_fields.specs.Format.{Format, ends, bind, ReadsAs}
 use Rattle.pc_fields.specs.MessageFormat.{message_format}
-use Rattle.pc_fields.proofs.Formats.{ReadsAs, reads_bind, ending}
+use Rattle.pc_fields.proofs.Formats.{reads_bind, ending}
 use Rattle.pc_fields.proofs.Good.{Good, good_bind}
 use Rattle.pc_fields.proofs.GoodMessage.{IsReadMessage, good_message}
 use Rattle.pc_fields.proofs.Pushes.{is-within}

@@ -14,17 +14,19 @@ use Rattle.pc_fields.proofs.FieldLengths.{name-short, u16-long, u64-long, messag
 use Rattle.pc_office_spelling.specs.Spelling.{names_fields, parts_of, fields_of, spelled_entry}
 use Rattle.pc_office_spelling.specs.EntryForm.{are_names, entry_fits, IsEntry}
 use Rattle.pc_office_spelling.specs.EntryFormat.{entry_format}
-use Rattle.pc_office_spelling.specs.Laws.{OneEntry, EntryIsRead, OneEntryFault, most_bytes, EntryLength, EntryIsShort}
+use Rattle.pc_office_spelling.specs.Laws.{most_bytes, EntryLength, EntryIsShort}
 use Rattle.pc_fields.proofs.Spelled.{one-value, is-read, one-fault}
-use Rattle.pc_office_spelling.proofs.Spelled.{entries, entries-spelled}
+use Rattle.pc_office_spelling.proofs.Spelled.{entries-spelled}
+use Rattle.pc_office_spelling.specs.Spelled.{entries}
+use Rattle.pc_fields.specs.Spelled.{OneValue, IsRead, OneFault}
 
-pub one-entry : OneEntry
+pub one-entry : OneValue entries
 one-entry = one-value entries entries-spelled
 
-pub entry-is-read : EntryIsRead
+pub entry-is-read : IsRead entries
 entry-is-read = is-read entries entries-spelled
 
-pub one-entry-fault : OneEntryFault
+pub one-entry-fault : OneFault entries
 one-entry-fault = one-fault entries entries-spelled
 
 -- ---- how many bytes entries take

@@ -3,8 +3,8 @@ use Rattle.std.proofs.Common.{◌≡◌, ℕ, zero, suc, List, [], ◌∷◌, �
 use Rattle.std.specs.List.{flat_map}
 use Rattle.std.proofs.lemmas.List.{append-nil}
 use Rattle.pc_fields.specs.FieldBytes.{u16_field, u32_field, short_list, long_list}
-use Rattle.pc_fields.specs.Format.{Format}
-use Rattle.pc_fields.proofs.Formats.{ReadsAs, reads_bind}
+use Rattle.pc_fields.specs.Format.{Format, ReadsAs}
+use Rattle.pc_fields.proofs.Formats.{reads_bind}
 use Rattle.pc_fields.proofs.Good.{Good, good_bind, good_weaker}
 use Rattle.pc_office_spelling.specs.RecordFormat.{items_from}
 

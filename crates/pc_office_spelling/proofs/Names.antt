@@ -5,8 +5,8 @@ use Rattle.std.proofs.lemmas.Bool.{and_from, and_parts, ltb-true}
 use Rattle.std.proofs.lemmas.List.{append-nil}
 use Rattle.pc_base.specs.Name.{is_name}
 use Rattle.pc_fields.specs.FieldBytes.{u16_field, name_field}
-use Rattle.pc_fields.specs.Format.{Format, ends, bind, repeated}
-use Rattle.pc_fields.proofs.Formats.{ReadsAs, ending}
+use Rattle.pc_fields.specs.Format.{Format, ends, bind, repeated, ReadsAs}
+use Rattle.pc_fields.proofs.Formats.{ending}
 use Rattle.pc_fields.proofs.Good.{Good, good_bind, good_weaker}
 use Rattle.pc_fields.proofs.Pushes.{is-within}
 use Rattle.pc_office_spelling.specs.Spelling.{names_fields}

@@ -14,10 +14,10 @@ use Rattle.pc_tables.proofs.Lists.{Every-weaker, Every-append}
 use Rattle.pc_tables.proofs.Totals.{total-append}
 use Rattle.pc_fields.specs.FieldBytes.{message_fields}
 use Rattle.pc_fields.specs.Fitting.{is_message}
-use Rattle.pc_fields.specs.Format.{ends, bind}
+use Rattle.pc_fields.specs.Format.{ends, bind, ReadsAs}
 use Rattle.pc_fields.specs.Fields.{is_new}
 use Rattle.pc_fields.specs.MessageFormat.{message_within}
-use Rattle.pc_fields.proofs.Formats.{ReadsAs, reads_bind, ending}
+use Rattle.pc_fields.proofs.Formats.{reads_bind, ending}
 use Rattle.pc_fields.proofs.ReadsMessage.{reads_message}
 use Rattle.pc_office_history.specs.declared.limits.TheConstants.{MOST_WAITING, MOST_WAITING_WEIGHT}
 use Rattle.pc_office_history.specs.declared.kept.Target.{Target}

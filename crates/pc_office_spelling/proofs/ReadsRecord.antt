@@ -7,7 +7,7 @@ use Rattle.pc_message.specs.declared.limits.TheConstants.{LAST_MAIL}
 use Rattle.pc_tables.proofs.Lists.{Every-weaker}
 use Rattle.pc_tables.proofs.Table.{length-keys}
 use Rattle.pc_fields.specs.FieldBytes.{u64_field, short_list, long_list}
-use Rattle.pc_fields.proofs.Formats.{ReadsAs, reads_bind, ending}
+use Rattle.pc_fields.proofs.Formats.{reads_bind, ending}
 use Rattle.pc_office_history.specs.declared.limits.TheConstants.{MOST_BOARD_MESSAGES, MOST_BOARD_WEIGHT}
 use Rattle.pc_office_history.specs.Record.{OfficeRecord, mails_for}
 use Rattle.pc_office_history.specs.Known.{said_by}
@@ -24,6 +24,7 @@ use Rattle.pc_office_spelling.proofs.Limits.{few-each, short-each, distinct-firs
 use Rattle.pc_office_spelling.proofs.ReadsTables.{reads_users, reads_addresses, reads_boards}
 use Rattle.pc_office_spelling.proofs.ReadsKept.{reads_kept}
 use Rattle.pc_office_spelling.proofs.GoodRecord.{with_users, with_addresses, with_boards}
+use Rattle.pc_fields.specs.Format.{ReadsAs}
 
 module _ (r : OfficeRecord) (saved : CanBeSaved r) where
   pub few-users : length r.users ≤ 32

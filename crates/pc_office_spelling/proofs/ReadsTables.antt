@@ -13,7 +13,7 @@ use Rattle.pc_tables.proofs.Table.{same-sym}
 use Rattle.pc_tables.proofs.Totals.{total-append}
 use Rattle.pc_fields.specs.FieldBytes.{message_fields, short_list}
 use Rattle.pc_fields.specs.Fitting.{is_message}
-use Rattle.pc_fields.proofs.Formats.{ReadsAs, ending}
+use Rattle.pc_fields.proofs.Formats.{ending}
 use Rattle.pc_fields.proofs.Pushes.{is-within}
 use Rattle.pc_fields.proofs.ReadsMessage.{reads_message}
 use Rattle.pc_office_history.specs.declared.kept.Target.{Target}
@@ -21,6 +21,7 @@ use Rattle.pc_office_spelling.specs.RecordSpelling.{user_fields, address_fields,
 use Rattle.pc_office_spelling.specs.RecordForm.{user_fits, target_fits, address_fits, board_fits}
 use Rattle.pc_office_spelling.specs.RecordFormat.{items_from, user_format, users_format, address_format, most_addresses, addresses_format, message_format, weight_on, board_format, boards_format}
 use Rattle.pc_office_spelling.proofs.Items.{reads_items}
+use Rattle.pc_fields.specs.Format.{ReadsAs}
 
 -- ---- names that are new
 

@@ -6,18 +6,6 @@ use Rattle.pc_office_history.specs.declared.entry.OfficeEntry.TheVariants.{Accep
 use Rattle.pc_office_spelling.specs.Spelling.{spelled_entry}
 use Rattle.pc_office_spelling.specs.EntryForm.{entry_fits, IsEntryFault}
 
--- no bytes are those of two entries
-abbrev pub OneEntry : Type 0
-OneEntry = (entry other : OfficeEntry) → IsTrue (entry_fits entry) → IsTrue (entry_fits other) → spelled_entry entry ≡ spelled_entry other → entry ≡ other
-
--- the bytes of an entry have no fault
-abbrev pub EntryIsRead : Type 0
-EntryIsRead = (entry : OfficeEntry) (place : ℕ) → IsTrue (entry_fits entry) → IsEntryFault (spelled_entry entry) place → ⊥
-
--- bytes have at most one first fault
-abbrev pub OneEntryFault : Type 0
-OneEntryFault = (bytes : List ℕ) (place other : ℕ) → IsEntryFault bytes place → IsEntryFault bytes other → place ≡ other
-
 -- how many bytes an entry has at most
 abbrev pub most_bytes : OfficeEntry → ℕ
 most_bytes (Accept names message) = 7 + 33 * length names + size_of message

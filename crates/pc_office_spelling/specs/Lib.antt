@@ -8,3 +8,4 @@ pub mod Spaces
 pub mod RecordFormat
 pub mod RecordLaws
 pub mod Samples
+pub mod Spelled

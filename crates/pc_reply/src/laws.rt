@@ -47,7 +47,8 @@ pub fn told_is_true()
         Nexts old old.progress new result → Tells bytes new result }
 {}
 
-/// Of the bytes one thing is true that can be told, and it's told unless memory is wanted.
+/// Of the bytes at most one thing is true that can be told, and what is true is told unless memory
+/// is wanted.
 pub fn truth_is_told()
     ensures one { (bytes : List ℕ) (one other : ReplyNext) → IsTold bytes one → IsTold bytes other → one ≡ other }
     ensures told { (bytes : List ℕ) (next : ReplyNext) (new : ReplyState) (result : Result ReplyNext Memory) →

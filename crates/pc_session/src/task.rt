@@ -115,7 +115,7 @@ fn task_in_box(
             mailbox,
             low: *low,
             high: *high,
-            shown: state.shown.copy(alloc)?,
+            shown: state.shown.copied(alloc)?,
         }),
         Request::FetchHeaders { uid } => Task::Header { mailbox, uid: *uid },
         Request::FetchMessage { uid } => Task::Ask(Question::Letter { mailbox, uid: *uid }),

@@ -43,8 +43,8 @@ pub enum ReplayEnd {
     Memory,
 }
 
-/// Plays the script that the input gives, line by line, and writes what each event prints. Every
-/// event before the end is written before it is answered, unless the output fails.
+/// Plays the script that the input gives, line by line. What is written is what its events print
+/// where it is played to its end, what those before a refused line print, and else a front of it.
 pub fn replay<S: Source, K: Sink>(alloc: Global, input: &mut S, output: &mut K) -> ReplayEnd
     ensures ends { Ends (S.left input.old) (S.left input.new) (K.written output.old) (K.written output.new) result }
     ensures read { result ≡ ReplayEnd.ReadFault → Rose (S.faults input.old) (S.faults input.new) }

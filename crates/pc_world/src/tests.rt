@@ -155,5 +155,5 @@ fn worlds_have_at_most_32_users(rt: HostRuntime) -> Result<(), Fail> {
             wanted.as_bytes(),
         )?;
     }
-    Ok(())
+    fits_not(&rt, &world, b"ask u33 HELP")
 }

@@ -1,4 +1,4 @@
-use Rattle.pc_account.specs.Following.{accepted_is_short}
+use Rattle.pc_account_records.proofs.Following.{accepted_is_short}
 use Rattle.pc_account.proofs.laws.accepted_is_short.Goals as goal
 
 pub returns : goal.returns

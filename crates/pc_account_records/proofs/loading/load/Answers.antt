@@ -1,8 +1,9 @@
 use Rattle.std.proofs.Common.{◌≡◌, ◌^◌}
 use Rattle.pc_fields.proofs.Spelled.{is_within, is_read_of, if_ended}
-use Rattle.pc_account_spelling.proofs.Spelled.{records, records-spelled}
+use Rattle.pc_account_spelling.proofs.Spelled.{records-spelled}
 use Rattle.pc_account_holdings.specs.State.{State}
 use Rattle.pc_account_records.proofs.ReadRecord.{held_in, state_canonical}
+use Rattle.pc_account_spelling.specs.Spelled.{records}
 use Rattle.pc_account_records.proofs.loading.load.Goals as goal
 
 pub end-requires : goal.end-requires

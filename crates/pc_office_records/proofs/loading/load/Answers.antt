@@ -1,7 +1,8 @@
 use Rattle.pc_fields.proofs.Spelled.{is_within, is_read_of, if_ended}
-use Rattle.pc_office_spelling.proofs.Spelled.{records, records-spelled}
+use Rattle.pc_office_spelling.proofs.Spelled.{records-spelled}
 use Rattle.pc_office_holdings.specs.Held.{record_in, AreAllCounted}
 use Rattle.pc_office_records.proofs.ReadRecord.{office_sound}
+use Rattle.pc_office_spelling.specs.Spelled.{records}
 use Rattle.pc_office_records.proofs.loading.load.Goals as goal
 
 pub end-requires : goal.end-requires

@@ -1,5 +1,6 @@
 use Rattle.pc_fields.proofs.Spelled.{value_within, value_read_of}
-use Rattle.pc_office_spelling.proofs.Spelled.{entries, entries-spelled}
+use Rattle.pc_office_spelling.proofs.Spelled.{entries-spelled}
+use Rattle.pc_office_spelling.specs.Spelled.{entries}
 use Rattle.pc_office_spelling.proofs.entry_reading.read_entry.Goals as goal
 
 pub end-requires : goal.end-requires

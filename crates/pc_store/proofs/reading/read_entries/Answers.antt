@@ -1,7 +1,7 @@
 use Rattle.std.proofs.Common.{◌+◌, ◌≤◌, Ok, Err, Option, IfSome, refl, ap, subst, arith}
 use Rattle.std.proofs.lemmas.Result.{err_from_is_err_and}
 use Rattle.pc_disk.specs.Images.{area_of}
-use Rattle.pc_log.specs.Untouched.{untouched-again}
+use Rattle.pc_log.proofs.Untouched.{untouched-again}
 use Rattle.pc_store.proofs.EntriesLemmas.{next_in, reading_more, entries_refused}
 use Rattle.pc_store.specs.declared.reading.ReadEntry.{ReadEntry}
 use Rattle.pc_store.proofs.DueLemmas.{due_before, if_device}

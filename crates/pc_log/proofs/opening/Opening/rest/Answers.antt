@@ -5,7 +5,7 @@ use Rattle.pc_log.specs.declared.found.PlacedEntry.{PlacedEntry}
 use Rattle.pc_log.specs.Area.{entry_bytes}
 use Rattle.pc_log.specs.Reading.{OpeningState, next_of}
 use Rattle.pc_log.specs.Opening.{IfEntry, Passes, ReadsSoFar, bytes_of_next}
-use Rattle.pc_log.specs.Untouched.{untouched-again}
+use Rattle.pc_log.proofs.Untouched.{untouched-again}
 use Rattle.pc_log.proofs.Trails.{room_of, so_far_more}
 use Rattle.pc_log.proofs.opening.Opening.rest.Goals as goal
 

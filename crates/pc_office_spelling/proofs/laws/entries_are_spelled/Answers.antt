@@ -1,0 +1,5 @@
+use Rattle.pc_office_spelling.proofs.Spelled.{entries-spelled}
+use Rattle.pc_office_spelling.proofs.laws.entries_are_spelled.Goals as goal
+
+pub returns : goal.returns
+returns c = entries-spelled
