@@ -2,6 +2,7 @@ pub mod Commits
 pub mod Drawing
 pub mod Ended
 pub mod Enrolments
+pub mod Folds
 pub mod Opens
 pub mod Rooms
 pub mod Singles

@@ -8,6 +8,7 @@ use crate::sessions::Sessions;
 use pc_account::Account;
 use pc_base::{Machine, Name};
 use pc_disk::{Choice, Disk, MemoryDisk};
+use pc_session::laws::record_answers_sessions;
 use pc_store::Store;
 use std::alloc::Global;
 use std::marker::Model;
@@ -35,10 +36,14 @@ impl<D: Disk + Drop> Model for Desk<D> {
 }
 
 impl<D: Disk + Drop> Desk<D> {
+    ghost use Rattle.pc_account_history.specs.History.{History, ◌▸▸◌};
+    ghost use Rattle.pc_account_history.specs.Laws.{folded};
     ghost use Rattle.pc_account_holdings.specs.State.{StandsFor};
     ghost use Rattle.pc_disk.specs.Images.{Images};
     ghost use Rattle.pc_store.specs.Store.{OpensInDoubt};
-    ghost use Rattle.pc_house.specs.Desk.{history_of};
+    ghost use Rattle.pc_session.specs.InPlace.{AnswersAsOver};
+    ghost use Rattle.pc_house.specs.Folded.{HasRecordOf};
+    ghost use Rattle.pc_house.specs.Desk.{history_of, told_by};
 
     /// The desk of a user whose account this store holds. No number of a session was drawn.
     pub fn new(alloc: Global, user: Name, store: Store<Account, D>) -> Desk<D>
@@ -49,10 +54,16 @@ impl<D: Disk + Drop> Desk<D> {
         ensures sessions { result.sessions ≡ [] }
         ensures base { spelled_record result.base ≡ store.head.base }
         ensures history { StandsFor store.state (history_of result.base store) }
+
+        // Where the store was folded, its history is the record of the one before the fold, and the entries since then;
+        // and the desk answers as over that history with them.
+        ensures in_place { (h : History) → HasRecordOf h store.head → history_of result.base store ≡ (folded h ▸▸ store.trail) }
+        ensures answers { (h : History) → HasRecordOf h store.head → AnswersAsOver (h ▸▸ store.trail) (told_by D.faults result) }
     {
         // what stands is known once the state is read
         let _state = store.state();
         let _doubt = store.doubt();
+        record_answers_sessions();
         Desk {
             user,
             store,

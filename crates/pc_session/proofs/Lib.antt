@@ -4,6 +4,7 @@ pub mod Coming
 pub mod Connections
 pub mod Entering
 pub mod Heard
+pub mod InPlace
 pub mod Kept
 pub mod Looked
 pub mod Pieces

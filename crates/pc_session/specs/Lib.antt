@@ -2,6 +2,7 @@ pub mod Answering
 pub mod Conversation
 pub mod Desk
 pub mod Desks
+pub mod InPlace
 pub mod Laws
 pub mod Lists
 pub mod Receipts

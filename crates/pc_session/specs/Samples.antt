@@ -4,9 +4,12 @@ use Rattle.pc_base.specs.declared.refusal.Refusal.TheVariants as refusal
 use Rattle.pc_base.specs.declared.refusal.LimitWord.TheVariants as limit
 use Rattle.pc_account_history.specs.declared.entry.Entry.TheVariants.{Flag, Forget, MakeClient}
 use Rattle.pc_account_history.specs.declared.kept.Listed.{Listed}
-use Rattle.pc_account_history.specs.History.{History, ◌▸◌}
+use Rattle.pc_account_history.specs.History.{History, start, ◌▸◌, next}
+use Rattle.pc_account_history.specs.Laws.{folded}
+use Rattle.pc_account_history.specs.Record.{AccountRecord, MailboxRecord}
 use Rattle.pc_account_history.specs.Samples.{box, enrolled, first_client, five_pulled, flag_between, pairs_of, second_client}
-use Rattle.pc_tables.specs.Table.{same}
+use Rattle.pc_account_history.specs.Step.{record_of}
+use Rattle.pc_tables.specs.Table.{map_values, same}
 use Rattle.pc_account_holdings.specs.State.{new_state}
 use Rattle.pc_reply.specs.Items.{client_text}
 use Rattle.pc_reply.specs.declared.items.Mode.TheVariants.{Interactive, Batch}
@@ -114,3 +117,19 @@ Shown = (pairs_of (answer_of (desk_of flag_between) (in_inbox first_client 1 [])
 -- clients with their births and how they are used
 abbrev pub ListsClients : Type 0
 ListsClients = (answer_of (desk_of five_pulled) at_console request.ListClients).reply.lines ≡ client_text first_client 3 Interactive ∷ client_text second_client 4 Batch ∷ []
+
+-- ---- a record in place of a history
+
+-- an account whose mailboxes have changes without their stamps
+abbrev pub without_stamp : Listed → Listed
+without_stamp listed = record { uid = listed.uid; stamp = 0 }
+
+abbrev pub without_stamps : AccountRecord → AccountRecord
+without_stamps r = record r { live = map_values (λ (mailbox : MailboxRecord). record mailbox { lists = map_values (map without_stamp) mailbox.lists }) r.live }
+
+-- over the record of a history the same changes are told, and what was shown is taken, as over the history; over the
+-- record without stamps nothing is
+abbrev pub InPlaceOfHistory : Type 0
+InPlaceOfHistory = (pairs_of (answer_of (desk_of (folded flagged)) (in_inbox first_client 1 []) (request.FetchChangedDescriptors 256)).session.shown ≡ (1, 5) ∷ (2, 5) ∷ (3, 5) ∷ (4, 5) ∷ (5, 6) ∷ [])
+    × ((answer_of (desk_of (folded flagged)) (in_inbox first_client 1 five_shown) (request.ResetDescriptors 1 9)).entry ≡ Some (Forget first_client box (1 ∷ 2 ∷ 3 ∷ 4 ∷ [])))
+    × ((answer_of (desk_of (start (without_stamps (record_of flagged)) (next flagged))) (in_inbox first_client 1 five_shown) (request.ResetDescriptors 1 9)).entry ≡ None)

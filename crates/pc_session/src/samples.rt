@@ -1,6 +1,6 @@
 //! Small desks and sessions, with what their answers must be. Each law is the contract of a function that does nothing.
 
-ghost use Rattle.pc_session.specs.Samples.{AnsweredAlone, ListsClients, LoggedIn, Refused, Shown, Taken, TakenOver};
+ghost use Rattle.pc_session.specs.Samples.{AnsweredAlone, InPlaceOfHistory, ListsClients, LoggedIn, Refused, Shown, Taken, TakenOver};
 
 /// What needs no account, and what a session refuses by itself.
 pub fn answered_alone()
@@ -35,4 +35,9 @@ pub fn shown()
 /// Clients, each with how it is used.
 pub fn lists_clients()
     ensures { ListsClients }
+{}
+
+/// A record in place of its history, and one that lost its stamps.
+pub fn in_place_of_history()
+    ensures { InPlaceOfHistory }
 {}
