@@ -278,80 +278,108 @@ fn stands<F: Folder>(folder: &mut F, name: &StoreName, bytes: &[u8]) -> bool {
     reads
 }
 
-// The names of a store of each kind, of two users.
-fn names() -> Result<[StoreName; 4], Fail> {
-    let ann = Name::read(b"ann").ok_or("a name")?;
-    let bob = Name::read(b"bob").ok_or("a name")?;
-    Ok([
-        StoreName::Office,
-        StoreName::Account { user: ann },
-        StoreName::Account { user: bob },
-        StoreName::Client {
-            user: ann,
-            client: bob,
-        },
-    ])
+// The name of a user's account.
+fn account(user: &[u8]) -> Result<StoreName, Fail> {
+    let user = Name::read(user).ok_or("a name")?;
+    Ok(StoreName::Account { user })
+}
+
+// The name of the cache of a user's client.
+fn cache(user: &[u8], client: &[u8]) -> Result<StoreName, Fail> {
+    let user = Name::read(user).ok_or("a name")?;
+    let client = Name::read(client).ok_or("a name")?;
+    Ok(StoreName::Client { user, client })
 }
 
 #[test]
 fn each_name_has_its_disk(rt: HostRuntime) -> Result<(), Fail> {
     let mut folder = MemoryFolder::new(rt.alloc());
-    let [office, ann, bob, client] = names()?;
-    holds(&rt, "no disk yet", stands(&mut folder, &ann, &[]));
-    store_in(&mut folder, &office, &[1])?;
-    store_in(&mut folder, &ann, &[2, 2])?;
-    store_in(&mut folder, &client, &[3])?;
-    store_in(&mut folder, &ann, &[4])?;
-    holds(&rt, "the office's", stands(&mut folder, &office, &[1]));
-    holds(&rt, "ann's", stands(&mut folder, &ann, &[4, 2]));
-    holds(&rt, "bob's", stands(&mut folder, &bob, &[]));
-    holds(&rt, "the client's", stands(&mut folder, &client, &[3]));
+    keeps_each(&rt, &mut folder)
+}
+
+// Stores under a name of each kind, of two users, and looks what stands there.
+fn keeps_each(rt: &impl Abort, folder: &mut MemoryFolder) -> Result<(), Fail> {
+    let office = StoreName::Office;
+    let ann = account(b"ann")?;
+    let bob = account(b"bob")?;
+    let client = cache(b"ann", b"bob")?;
+    holds(rt, "no disk yet", stands(folder, &ann, &[]));
+    store_in(folder, &office, &[1])?;
+    store_in(folder, &ann, &[2, 2])?;
+    store_in(folder, &client, &[3])?;
+    store_in(folder, &ann, &[4])?;
+    holds(rt, "the office's", stands(folder, &office, &[1]));
+    holds(rt, "ann's", stands(folder, &ann, &[4, 2]));
+    holds(rt, "bob's", stands(folder, &bob, &[]));
+    holds(rt, "the client's", stands(folder, &client, &[3]));
     Ok(())
 }
 
 #[test]
 fn a_disk_is_given_back_under_another_name(rt: HostRuntime) -> Result<(), Fail> {
     let mut folder = MemoryFolder::new(rt.alloc());
-    let [office, ann, bob, _] = names()?;
-    store_in(&mut folder, &office, &[1])?;
-    store_in(&mut folder, &ann, &[2])?;
+    takes_another_name(&rt, &mut folder)
+}
+
+// Gives ann's disk back as the office's, and looks what stands under each name then.
+fn takes_another_name(rt: &impl Abort, folder: &mut MemoryFolder) -> Result<(), Fail> {
+    let office = StoreName::Office;
+    let ann = account(b"ann")?;
+    let bob = account(b"bob")?;
+    store_in(folder, &office, &[1])?;
+    store_in(folder, &ann, &[2])?;
     let disk = folder.take(&ann)?;
-    holds(&rt, "ann's is taken", stands(&mut folder, &ann, &[]));
+    holds(rt, "ann's is taken", stands(folder, &ann, &[]));
     folder.back(&office, disk);
-    holds(&rt, "the office has it", stands(&mut folder, &office, &[2]));
-    holds(&rt, "bob has none", stands(&mut folder, &bob, &[]));
+    holds(rt, "the office has it", stands(folder, &office, &[2]));
+    holds(rt, "bob has none", stands(folder, &bob, &[]));
     Ok(())
 }
 
 #[test]
 fn a_folder_fails(rt: HostRuntime) -> Result<(), Fail> {
     let mut folder = MemoryFolder::new(rt.alloc());
-    let [office, ..] = names()?;
-    store_in(&mut folder, &office, &[1])?;
+    fails_once(&rt, &mut folder)
+}
+
+// Lets the second call of `take` fail.
+fn fails_once(rt: &impl Abort, folder: &mut MemoryFolder) -> Result<(), Fail> {
+    let office = StoreName::Office;
+    store_in(folder, &office, &[1])?;
     folder.fail_at(2);
-    holds(&rt, "the first", stands(&mut folder, &office, &[1]));
-    holds(&rt, "the second fails", folder.take(&office).is_err());
-    holds(&rt, "the third", stands(&mut folder, &office, &[1]));
+    holds(rt, "the first", stands(folder, &office, &[1]));
+    holds(rt, "the second fails", folder.take(&office).is_err());
+    holds(rt, "the third", stands(folder, &office, &[1]));
     Ok(())
 }
 
 #[test]
 fn a_disk_in_a_folder_is_armed(rt: HostRuntime) -> Result<(), Fail> {
     let mut folder = MemoryFolder::new(rt.alloc());
-    let [office, ..] = names()?;
-    let mut disk = folder.take(&office)?;
-    let mut armed = MemoryDisk::new(rt.alloc());
+    arm(&rt, rt.alloc(), &mut folder)?;
+    fails_where_armed(&rt, &mut folder)
+}
+
+// Puts a disk whose first call fails in place of the office's.
+fn arm(rt: &impl Abort, alloc: Global, folder: &mut MemoryFolder) -> Result<(), Fail> {
+    let mut disk = folder.take(&StoreName::Office)?;
+    let mut armed = MemoryDisk::new(alloc);
     armed.fail_at(1);
     let empty = disk.exchange(armed);
-    holds(&rt, "the one before is whole", !empty.stopped());
-    folder.back(&office, disk);
-    let mut disk = folder.take(&office)?;
+    holds(rt, "the one before is whole", !empty.stopped());
+    folder.back(&StoreName::Office, disk);
+    Ok(())
+}
+
+// Looks whether the first call of the office's disk fails, and no other.
+fn fails_where_armed(rt: &impl Abort, folder: &mut MemoryFolder) -> Result<(), Fail> {
+    let mut disk = folder.take(&StoreName::Office)?;
     let Ok(()) = disk.reserve(0, 8) else {
         return Err(Fail::from("memory"));
     };
-    holds(&rt, "the first fails", disk.write(0, 0, &[1]).is_err());
-    holds(&rt, "the second", disk.write(0, 0, &[2]).is_ok());
-    holds(&rt, "what is read", is_read(&mut disk, &[2]));
+    holds(rt, "the first fails", disk.write(0, 0, &[1]).is_err());
+    holds(rt, "the second", disk.write(0, 0, &[2]).is_ok());
+    holds(rt, "what is read", is_read(&mut disk, &[2]));
     Ok(())
 }
 

@@ -8,9 +8,17 @@ use std::alloc::Global;
 use std::process::Abort;
 use std::test::Fail;
 
+fn holds(rt: &impl Abort, what: &str, is: bool) {
+    assert!(rt; is, "{what}");
+}
+
+fn same(rt: &impl Abort, what: &str, found: &[u8], wanted: &str) {
+    assert_eq!(rt; found, wanted.as_bytes(), "{what}");
+}
+
 /// What a session answers to the line of a request that reaches nobody.
-fn told(alloc: Global, session: &mut Session, line: &[u8]) -> Result<Reply, Fail> {
-    let request = Request::read(line).ok().ok_or("no request")?;
+fn told(alloc: Global, session: &mut Session, line: &str) -> Result<Reply, Fail> {
+    let request = Request::read(line.as_bytes()).ok().ok_or("no request")?;
     match session.reach(&request) {
         Reach::Nobody => Ok(session.alone(alloc, &request)),
         Reach::Account(_) => Err(Fail::from("it reaches an account")),
@@ -18,8 +26,8 @@ fn told(alloc: Global, session: &mut Session, line: &[u8]) -> Result<Reply, Fail
 }
 
 /// The user whose account the line of a request reaches.
-fn reached(session: &Session, line: &[u8]) -> Result<Name, Fail> {
-    let request = Request::read(line).ok().ok_or("no request")?;
+fn reached(session: &Session, line: &str) -> Result<Name, Fail> {
+    let request = Request::read(line.as_bytes()).ok().ok_or("no request")?;
     match session.reach(&request) {
         Reach::Nobody => Err(Fail::from("it reaches nobody")),
         Reach::Account(user) => Ok(user),
@@ -30,80 +38,131 @@ fn ann() -> Result<Name, Fail> {
     Ok(Name::read(b"ann").ok_or("no name")?)
 }
 
-#[test]
-fn nobody_has_logged_in(rt: HostRuntime) -> Result<(), Fail> {
-    let rows = [
-        (b"SEND-VERSION 1".as_slice(), b"200 Ok".as_slice()),
-        (b"SEND-VERSION 7", b"429 Version unknown"),
-        (b"LIST-MAILBOXES", b"403 Not logged in"),
-        (b"FETCH-MESSAGE 1", b"403 Not logged in"),
-        (b"LIST-ADDRESSES work", b"400 Unknown operation"),
-        (b"SEND-MESSAGE", b"400 Unknown operation"),
-        (b"LOGOUT", b"221 Closing"),
-    ];
-    let mut session = Session::new(rt.alloc());
-    for (line, wanted) in rows {
-        let reply = told(rt.alloc(), &mut session, line)?;
-        assert_eq!(rt; reply.head.text().bytes(), wanted);
-        assert!(rt; reply.lines.as_slice().is_empty());
+/// Looks whether a line that reaches nobody is answered by this head and no lines.
+fn answers(
+    rt: &impl Abort,
+    alloc: Global,
+    session: &mut Session,
+    line: &str,
+    head: &str,
+) -> Result<(), Fail> {
+    let reply = told(alloc, session, line)?;
+    same(rt, line, reply.head.text().bytes(), head);
+    holds(rt, line, reply.lines.as_slice().is_empty());
+    Ok(())
+}
+
+/// Looks whether each row's line is answered by the row's head and no lines.
+fn answers_each(
+    rt: &impl Abort,
+    alloc: Global,
+    session: &mut Session,
+    rows: &[(&str, &str)],
+) -> Result<(), Fail> {
+    for (line, head) in rows {
+        answers(rt, alloc, session, line, head)?;
     }
-    assert_eq!(rt; session.answered(), 7);
-    assert!(rt; session.user().is_none());
     Ok(())
 }
 
 #[test]
+fn nobody_has_logged_in(rt: HostRuntime) -> Result<(), Fail> {
+    let mut session = Session::new(rt.alloc());
+    answers_each(&rt, rt.alloc(), &mut session, &NOBODY)?;
+    holds(&rt, "seven answers", session.answered() == 7);
+    holds(&rt, "no user", session.user().is_none());
+    Ok(())
+}
+
+static NOBODY: [(&str, &str); 7] = [
+    ("SEND-VERSION 1", "200 Ok"),
+    ("SEND-VERSION 7", "429 Version unknown"),
+    ("LIST-MAILBOXES", "403 Not logged in"),
+    ("FETCH-MESSAGE 1", "403 Not logged in"),
+    ("LIST-ADDRESSES work", "400 Unknown operation"),
+    ("SEND-MESSAGE", "400 Unknown operation"),
+    ("LOGOUT", "221 Closing"),
+];
+
+#[test]
 fn at_the_console(rt: HostRuntime) -> Result<(), Fail> {
-    let rows = [
-        (
-            b"LOGIN ann sesame ws1 0 0".as_slice(),
-            b"404 Already logged in".as_slice(),
-        ),
-        (b"FETCH-MESSAGE 1", b"408 No mailbox selected"),
-        (b"EXPUNGE-MAILBOX", b"408 No mailbox selected"),
-        (b"LIST-SUBSCRIPTIONS", b"400 Unknown operation"),
-    ];
     let mut session = Session::console(rt.alloc(), ann()?);
-    for (line, wanted) in rows {
-        let reply = told(rt.alloc(), &mut session, line)?;
-        assert_eq!(rt; reply.head.text().bytes(), wanted);
-    }
+    answers_each(&rt, rt.alloc(), &mut session, &CONSOLE)?;
+    last_is_heard(&rt, &session)?;
+    holds(&rt, "no receipts", session.receipts().as_slice().is_empty());
+    Ok(())
+}
+
+static CONSOLE: [(&str, &str); 4] = [
+    ("LOGIN ann sesame ws1 0 0", "404 Already logged in"),
+    ("FETCH-MESSAGE 1", "408 No mailbox selected"),
+    ("EXPUNGE-MAILBOX", "408 No mailbox selected"),
+    ("LIST-SUBSCRIPTIONS", "400 Unknown operation"),
+];
+
+/// Looks whether the last answer at the console is heard.
+fn last_is_heard(rt: &impl Abort, session: &Session) -> Result<(), Fail> {
     let heard = session.heard().ok_or("no reply")?;
-    assert_eq!(rt;
+    same(
+        rt,
+        "heard",
         heard.head.text().bytes(),
-        b"400 Unknown operation".as_slice()
+        "400 Unknown operation",
     );
-    assert!(rt; session.receipts().as_slice().is_empty());
     Ok(())
 }
 
 #[test]
 fn help_lists_all_operations(rt: HostRuntime) -> Result<(), Fail> {
     let mut session = Session::new(rt.alloc());
-    let reply = told(rt.alloc(), &mut session, b"HELP")?;
-    assert_eq!(rt; reply.head.text().bytes(), b"201 List follows".as_slice());
+    let reply = told(rt.alloc(), &mut session, "HELP")?;
+    lists_operations(&rt, &reply)
+}
+
+fn lists_operations(rt: &impl Abort, reply: &Reply) -> Result<(), Fail> {
+    same(
+        rt,
+        "its head",
+        reply.head.text().bytes(),
+        "201 List follows",
+    );
     let lines = reply.lines.as_slice();
-    assert_eq!(rt; lines.len(), 31);
+    holds(rt, "31 lines", lines.len() == 31);
     let first = lines.first().ok_or("no line")?;
-    assert_eq!(rt; first.bytes(), b"SEND-VERSION".as_slice());
+    same(rt, "the first", first.bytes(), "SEND-VERSION");
     let last = lines.last().ok_or("no line")?;
-    assert_eq!(rt; last.bytes(), b"SEND-MESSAGE".as_slice());
+    same(rt, "the last", last.bytes(), "SEND-MESSAGE");
     Ok(())
 }
 
 #[test]
 fn whom_requests_reach(rt: HostRuntime) -> Result<(), Fail> {
-    let mut session = Session::new(rt.alloc());
-    let user = reached(&session, b"LOGIN ann sesame ws1 1 0")?;
-    assert!(rt; user == ann()?);
-    let reply = session.no_desk(rt.alloc());
-    assert_eq!(rt;
-        reply.head.text().bytes(),
-        b"405 Bad user or password".as_slice()
-    );
-    assert_eq!(rt; session.answered(), 0);
     let session = Session::console(rt.alloc(), ann()?);
-    let user = reached(&session, b"LIST-MAILBOXES")?;
-    assert!(rt; user == ann()?);
+    reaches_ann(&rt, &session, "LIST-MAILBOXES")
+}
+
+#[test]
+fn a_login_without_a_desk(rt: HostRuntime) -> Result<(), Fail> {
+    let mut session = Session::new(rt.alloc());
+    has_no_desk(&rt, rt.alloc(), &mut session)
+}
+
+/// Looks whether the line of a request reaches ann's account.
+fn reaches_ann(rt: &impl Abort, session: &Session, line: &str) -> Result<(), Fail> {
+    let user = reached(session, line)?;
+    same(rt, line, user.bytes(), "ann");
+    Ok(())
+}
+
+fn has_no_desk(rt: &impl Abort, alloc: Global, session: &mut Session) -> Result<(), Fail> {
+    reaches_ann(rt, session, "LOGIN ann sesame ws1 1 0")?;
+    let reply = session.no_desk(alloc);
+    same(
+        rt,
+        "no desk",
+        reply.head.text().bytes(),
+        "405 Bad user or password",
+    );
+    holds(rt, "no answer", session.answered() == 0);
     Ok(())
 }

@@ -1,6 +1,6 @@
 //! Accounts that are full: the limits that take many messages, each at its number and one past it.
 
-use super::player::{each, gives, goes_on};
+use super::player::{each, gives, goes_on, plays};
 use crate::Account;
 use std::alloc::Global;
 use std::process::Abort;
@@ -9,41 +9,65 @@ use std::test::Fail;
 #[test]
 fn a_mailbox_of_4096_messages(rt: HostRuntime) -> Result<(), Fail> {
     let mut account = Account::empty(rt.alloc())?;
-    each(&rt, rt.alloc(), &mut account, "MakeMailbox", "box", 2)?;
-    bring(&rt, rt.alloc(), &mut account, "box1", 1)?;
-    fill_up_to_one(&rt, rt.alloc(), &mut account, "box0")?;
-    goes_on(&rt, rt.alloc(), &mut account, &MESSAGES)
+    meets_messages(&rt, rt.alloc(), &mut account)
 }
 
 #[test]
 fn sixteen_mebibytes(rt: HostRuntime) -> Result<(), Fail> {
-    let mut account = Account::empty(rt.alloc())?;
-    goes_on(&rt, rt.alloc(), &mut account, &BYTES)
+    plays(&rt, rt.alloc(), &BYTES)
 }
 
 #[test]
 fn several_limits_at_once(rt: HostRuntime) -> Result<(), Fail> {
     let mut account = Account::empty(rt.alloc())?;
-    each(&rt, rt.alloc(), &mut account, "MakeClient", "c", 16)?;
-    each(&rt, rt.alloc(), &mut account, "MakeMailbox", "box", 17)?;
-    for place in 0..15 {
-        let mailbox = format!(in rt.alloc(); "box{place}")?;
-        fill(&rt, rt.alloc(), &mut account, &mailbox)?;
-    }
-    fill_up_to_one(&rt, rt.alloc(), &mut account, "box15")?;
-    goes_on(&rt, rt.alloc(), &mut account, &SEVERAL)
+    meets_several(&rt, rt.alloc(), &mut account)
 }
 
 #[test]
 fn changes_of_what_is_gone(rt: HostRuntime) -> Result<(), Fail> {
     let mut account = Account::empty(rt.alloc())?;
-    goes_on(&rt, rt.alloc(), &mut account, &BEGINNING)?;
-    for _ in 0..254 {
-        fill(&rt, rt.alloc(), &mut account, "box")?;
-        goes_on(&rt, rt.alloc(), &mut account, &AGAIN)?;
+    meets_changes(&rt, rt.alloc(), &mut account)
+}
+
+/// Fills box0 up to one message, and looks where messages stop.
+fn meets_messages(rt: &impl Abort, alloc: Global, account: &mut Account) -> Result<(), Fail> {
+    each(rt, alloc, account, "MakeMailbox", "box", 2)?;
+    bring(rt, alloc, account, "box1", 1)?;
+    fill_up_to_one(rt, alloc, account, "box0")?;
+    goes_on(rt, alloc, account, &MESSAGES)
+}
+
+/// Fills an account up to one message, and looks where several limits stop it.
+fn meets_several(rt: &impl Abort, alloc: Global, account: &mut Account) -> Result<(), Fail> {
+    each(rt, alloc, account, "MakeClient", "c", 16)?;
+    each(rt, alloc, account, "MakeMailbox", "box", 17)?;
+    for place in 0..15 {
+        fill_box(rt, alloc, account, place)?;
     }
-    fill(&rt, rt.alloc(), &mut account, "box")?;
-    goes_on(&rt, rt.alloc(), &mut account, &CHANGES)
+    fill_up_to_one(rt, alloc, account, "box15")?;
+    goes_on(rt, alloc, account, &SEVERAL)
+}
+
+/// Fills a mailbox and drops it again and again, and looks where changes stop.
+fn meets_changes(rt: &impl Abort, alloc: Global, account: &mut Account) -> Result<(), Fail> {
+    goes_on(rt, alloc, account, &BEGINNING)?;
+    for _ in 0..254 {
+        fill(rt, alloc, account, "box")?;
+        goes_on(rt, alloc, account, &AGAIN)?;
+    }
+    fill(rt, alloc, account, "box")?;
+    goes_on(rt, alloc, account, &CHANGES)
+}
+
+/// Brings 4,096 empty messages to the mailbox of this number.
+fn fill_box(
+    rt: &impl Abort,
+    alloc: Global,
+    account: &mut Account,
+    number: u32,
+) -> Result<(), Fail> {
+    let mailbox = format!(in alloc; "box{number}")?;
+    fill(rt, alloc, account, &mailbox)
 }
 
 /// Brings 4,096 empty messages to a mailbox.

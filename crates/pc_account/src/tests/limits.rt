@@ -3,6 +3,7 @@
 use super::player::{each, goes_on, plays};
 use crate::Account;
 use std::alloc::Global;
+use std::process::Abort;
 use std::test::Fail;
 
 #[test]
@@ -13,21 +14,29 @@ fn sixteen_clients(rt: HostRuntime) -> Result<(), Fail> {
 #[test]
 fn sixty_four_mailboxes(rt: HostRuntime) -> Result<(), Fail> {
     let mut account = Account::empty(rt.alloc())?;
-    each(&rt, rt.alloc(), &mut account, "MakeMailbox", "box", 64)?;
-    goes_on(&rt, rt.alloc(), &mut account, &MAILBOXES)
+    meets_mailboxes(&rt, rt.alloc(), &mut account)
 }
 
 #[test]
 fn sixty_four_subscriptions(rt: HostRuntime) -> Result<(), Fail> {
     let mut account = Account::empty(rt.alloc())?;
-    each(&rt, rt.alloc(), &mut account, "Subscribe", "news", 64)?;
-    goes_on(&rt, rt.alloc(), &mut account, &SUBSCRIPTIONS)
+    meets_subscriptions(&rt, rt.alloc(), &mut account)
 }
 
 #[test]
 fn the_last_uid(rt: HostRuntime) -> Result<(), Fail> {
     let mut account = nearly_out_of_uids(rt.alloc())?;
     goes_on(&rt, rt.alloc(), &mut account, &UIDS)
+}
+
+fn meets_mailboxes(rt: &impl Abort, alloc: Global, account: &mut Account) -> Result<(), Fail> {
+    each(rt, alloc, account, "MakeMailbox", "box", 64)?;
+    goes_on(rt, alloc, account, &MAILBOXES)
+}
+
+fn meets_subscriptions(rt: &impl Abort, alloc: Global, account: &mut Account) -> Result<(), Fail> {
+    each(rt, alloc, account, "Subscribe", "news", 64)?;
+    goes_on(rt, alloc, account, &SUBSCRIPTIONS)
 }
 
 /// The account of a record whose mailbox inbox has given 999,999,999 uids.

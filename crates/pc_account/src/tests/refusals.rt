@@ -4,6 +4,7 @@ use super::holds;
 use super::player::plays;
 use crate::{Account, Entry};
 use pc_base::Name;
+use std::alloc::Global;
 use std::test::Fail;
 
 #[test]
@@ -24,16 +25,20 @@ fn of_pulls(rt: HostRuntime) -> Result<(), Fail> {
 /// There is no flag 16, whatever lives.
 #[test]
 fn of_a_flag_past_the_last(rt: HostRuntime) -> Result<(), Fail> {
-    let account = Account::empty(rt.alloc())?;
     let mailbox = Name::read(b"inbox").ok_or("a name")?;
-    let entry = Entry::Flag {
+    holds(&rt, "flag 16", !allows_flag(rt.alloc(), mailbox, 16)?);
+    Ok(())
+}
+
+/// Whether a new account lets this flag of message 1 be set.
+fn allows_flag(alloc: Global, mailbox: Name, flag: u8) -> Result<bool, Fail> {
+    let account = Account::empty(alloc)?;
+    Ok(account.allows(&Entry::Flag {
         mailbox,
         uid: 1,
-        flag: 16,
+        flag,
         on: true,
-    };
-    holds(&rt, "flag 16", !account.allows(&entry));
-    Ok(())
+    }))
 }
 
 /// The mailbox comes before the message, and the message before the mailbox that it is copied to.

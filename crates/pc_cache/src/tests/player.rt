@@ -2,7 +2,7 @@
 
 use crate::Cache;
 use pc_base::{Line, Memory, Name, Names, read_u32};
-use pc_cache_history::CacheEntry;
+use pc_cache_history::{CacheEntry, Item};
 use pc_message::{Change, Changes, Descriptor};
 use std::alloc::Global;
 use std::process::Abort;
@@ -12,9 +12,21 @@ use std::test::Fail;
 pub fn plays(rt: &impl Abort, alloc: Global, rows: &[(&str, &str)]) -> Result<(), Fail> {
     let mut cache = Cache::empty(alloc)?;
     for (line, want) in rows {
-        let told = tell(alloc, &mut cache, line)?;
-        assert_eq!(rt; told.as_str(), *want, "at {line}");
+        gives(rt, alloc, &mut cache, line, want)?;
     }
+    Ok(())
+}
+
+/// Plays a line, and looks whether that gives this answer.
+fn gives(
+    rt: &impl Abort,
+    alloc: Global,
+    cache: &mut Cache,
+    line: &str,
+    want: &str,
+) -> Result<(), Fail> {
+    let told = tell(alloc, cache, line)?;
+    assert_eq!(rt; told.as_str(), want, "at {line}");
     Ok(())
 }
 
@@ -44,13 +56,23 @@ pub fn there(alloc: Global, uid: u32, flags: u32) -> Result<Change, Fail> {
 /// What is told of a line.
 fn tell(alloc: Global, cache: &mut Cache, line: &str) -> Result<String, Fail> {
     let words: Vec<&str> = line.split_whitespace().collect(alloc)?;
-    let Some((verb, words)) = words.as_slice().split_first() else {
+    tell_split(alloc, cache, words.as_slice())
+}
+
+/// What is told of the words of a line.
+fn tell_split(alloc: Global, cache: &mut Cache, words: &[&str]) -> Result<String, Fail> {
+    let Some((verb, words)) = words.split_first() else {
         return Err("a word")?;
     };
-    let Some(entry) = entry(alloc, verb, words)? else {
-        return answer(alloc, cache, verb, words);
-    };
-    match enter(alloc, cache, &entry)? {
+    match entry(alloc, verb, words)? {
+        Some(entry) => tell_entered(alloc, cache, &entry),
+        None => answer(alloc, cache, verb, words),
+    }
+}
+
+/// Makes an entry, where it is allowed, and tells whether it is.
+fn tell_entered(alloc: Global, cache: &mut Cache, entry: &CacheEntry) -> Result<String, Fail> {
+    match enter(alloc, cache, entry)? {
         true => Ok(String::from_str(alloc, "ok")?),
         false => Ok(String::from_str(alloc, "no")?),
     }
@@ -121,46 +143,63 @@ fn names(alloc: Global, words: &[&str]) -> Result<Names, Fail> {
 fn changes(alloc: Global, words: &[&str]) -> Result<Changes, Fail> {
     let mut changes = Changes::new(alloc);
     for pair in 0..words.len() / 2 {
-        let uid = number(words, 2 * pair + 1)?;
-        let word = words.get(2 * pair + 2).ok_or("a word more")?;
-        if *word == "gone" {
-            changes.push(Change::Expunged(uid))?;
-        } else {
-            changes.push(there(alloc, uid, number(words, 2 * pair + 2)?)?)?;
-        }
+        changes.push(change(alloc, words, 2 * pair + 1)?)?;
     }
     Ok(changes)
+}
+
+/// The change in two words from this place on.
+fn change(alloc: Global, words: &[&str], place: usize) -> Result<Change, Fail> {
+    let uid = number(words, place)?;
+    let second = place.saturating_add(1);
+    let word = words.get(second).ok_or("a word more")?;
+    if *word == "gone" {
+        return Ok(Change::Expunged(uid));
+    }
+    there(alloc, uid, number(words, second)?)
 }
 
 /// The names, with a space behind each.
 fn told_names(alloc: Global, names: &Names) -> Result<String, Fail> {
     let mut told = String::new(alloc);
     for name in names.as_slice() {
-        told.push_str(str::from_utf8(name.bytes())?)?;
-        told.push(' ')?;
+        add_name(&mut told, name)?;
     }
     Ok(told)
+}
+
+fn add_name(told: &mut String, name: &Name) -> Result<(), Fail> {
+    told.push_str(str::from_utf8(name.bytes())?)?;
+    Ok(told.push(' ')?)
 }
 
 /// The number, uid and flag of each change in the queue.
 fn told_queue(alloc: Global, cache: &Cache) -> Result<String, Fail> {
     let mut told = String::new(alloc);
     for item in cache.queue() {
-        let text = format!(in alloc; "{}:{}:{}:{} ", item.number, item.uid, item.flag, item.on)?;
-        told.push_str(&text)?;
+        add_item(alloc, &mut told, item)?;
     }
     Ok(told)
+}
+
+fn add_item(alloc: Global, told: &mut String, item: &Item) -> Result<(), Fail> {
+    let text = format!(in alloc; "{}:{}:{}:{} ", item.number, item.uid, item.flag, item.on)?;
+    Ok(told.push_str(&text)?)
 }
 
 /// The uid and flags of each message that is shown.
 fn told_changes(alloc: Global, changes: &Changes) -> Result<String, Fail> {
     let mut told = String::new(alloc);
     for change in changes.as_slice() {
-        let Change::Present(shown) = change else {
-            return Err("a message that is there")?;
-        };
-        let text = format!(in alloc; "{}:{} ", shown.uid, shown.flags)?;
-        told.push_str(&text)?;
+        add_change(alloc, &mut told, change)?;
     }
     Ok(told)
+}
+
+fn add_change(alloc: Global, told: &mut String, change: &Change) -> Result<(), Fail> {
+    let Change::Present(shown) = change else {
+        return Err("a message that is there")?;
+    };
+    let text = format!(in alloc; "{}:{} ", shown.uid, shown.flags)?;
+    Ok(told.push_str(&text)?)
 }

@@ -9,77 +9,104 @@ use std::test::Fail;
 #[test]
 fn users_and_addresses(rt: HostRuntime) -> Result<(), Fail> {
     let mut office = Office::empty(rt.alloc())?;
-    each(&rt, rt.alloc(), &mut office, "AddUser u", "", 31)?;
-    each(&rt, rt.alloc(), &mut office, "Take a", " u0 inbox", 992)?;
-    goes_on(&rt, rt.alloc(), &mut office, &NAMES)
+    meets_names(&rt, rt.alloc(), &mut office)
 }
 
 #[test]
 fn boards(rt: HostRuntime) -> Result<(), Fail> {
     let mut office = Office::empty(rt.alloc())?;
-    each(&rt, rt.alloc(), &mut office, "AddBoard b", "", 64)?;
-    goes_on(&rt, rt.alloc(), &mut office, &BOARDS)
+    meets_boards(&rt, rt.alloc(), &mut office)
 }
 
 #[test]
 fn recipients(rt: HostRuntime) -> Result<(), Fail> {
     let mut office = Office::empty(rt.alloc())?;
-    gives(&rt, rt.alloc(), &mut office, "AddUser ann", "ok")?;
-    each(&rt, rt.alloc(), &mut office, "Take a", " ann inbox", 64)?;
-    sends(&rt, rt.alloc(), &mut office, 64, "ok")?;
-    sends(
-        &rt,
-        rt.alloc(),
-        &mut office,
-        65,
-        "418 Limit reached recipients",
-    )
+    meets_recipients(&rt, rt.alloc(), &mut office)
 }
 
 #[test]
 fn mails_that_wait(rt: HostRuntime) -> Result<(), Fail> {
     let mut office = Office::empty(rt.alloc())?;
-    goes_on(&rt, rt.alloc(), &mut office, &BEGINNING)?;
-    repeats(&rt, rt.alloc(), &mut office, "Send 0 ann", 1_023)?;
-    goes_on(&rt, rt.alloc(), &mut office, &MAILS)
+    meets_mails(&rt, rt.alloc(), &mut office)
 }
 
 #[test]
 fn weight_that_waits(rt: HostRuntime) -> Result<(), Fail> {
     let mut office = Office::empty(rt.alloc())?;
-    goes_on(&rt, rt.alloc(), &mut office, &BEGINNING)?;
-    repeats(&rt, rt.alloc(), &mut office, "Send 65 ann", 64)?;
-    goes_on(&rt, rt.alloc(), &mut office, &WEIGHT)
+    meets_weight(&rt, rt.alloc(), &mut office)
 }
 
 #[test]
 fn messages_of_a_board(rt: HostRuntime) -> Result<(), Fail> {
     let mut office = Office::empty(rt.alloc())?;
-    goes_on(&rt, rt.alloc(), &mut office, &BEGINNING)?;
-    repeats(&rt, rt.alloc(), &mut office, "Send 0 news", 4_095)?;
-    repeats(&rt, rt.alloc(), &mut office, "Send 0 bob", 1_024)?;
-    goes_on(&rt, rt.alloc(), &mut office, &MESSAGES)
+    meets_messages(&rt, rt.alloc(), &mut office)
 }
 
 #[test]
 fn weight_of_all_boards(rt: HostRuntime) -> Result<(), Fail> {
     let mut office = Office::empty(rt.alloc())?;
-    each(&rt, rt.alloc(), &mut office, "AddBoard b", "", 64)?;
-    let mut line = String::from_str(rt.alloc(), "Send 65 ")?;
-    for place in 0..64 {
-        let item = format!(in rt.alloc(); "b{place},")?;
-        line.push_str(&item)?;
-    }
-    repeats(&rt, rt.alloc(), &mut office, &line, 16)?;
-    goes_on(&rt, rt.alloc(), &mut office, &BOARD_WEIGHT)
+    meets_board_weight(&rt, rt.alloc(), &mut office)
 }
 
 #[test]
 fn addresses_before_users_are_full(rt: HostRuntime) -> Result<(), Fail> {
     let mut office = Office::empty(rt.alloc())?;
-    gives(&rt, rt.alloc(), &mut office, "AddUser ann", "ok")?;
-    each(&rt, rt.alloc(), &mut office, "Take a", " ann inbox", 1_023)?;
-    goes_on(&rt, rt.alloc(), &mut office, &ADDRESSES)
+    meets_addresses(&rt, rt.alloc(), &mut office)
+}
+
+fn meets_names(rt: &impl Abort, alloc: Global, office: &mut Office) -> Result<(), Fail> {
+    each(rt, alloc, office, "AddUser u", "", 31)?;
+    each(rt, alloc, office, "Take a", " u0 inbox", 992)?;
+    goes_on(rt, alloc, office, &NAMES)
+}
+
+fn meets_boards(rt: &impl Abort, alloc: Global, office: &mut Office) -> Result<(), Fail> {
+    each(rt, alloc, office, "AddBoard b", "", 64)?;
+    goes_on(rt, alloc, office, &BOARDS)
+}
+
+fn meets_recipients(rt: &impl Abort, alloc: Global, office: &mut Office) -> Result<(), Fail> {
+    gives(rt, alloc, office, "AddUser ann", "ok")?;
+    each(rt, alloc, office, "Take a", " ann inbox", 64)?;
+    sends(rt, alloc, office, 64, "ok")?;
+    sends(rt, alloc, office, 65, "418 Limit reached recipients")
+}
+
+fn meets_mails(rt: &impl Abort, alloc: Global, office: &mut Office) -> Result<(), Fail> {
+    goes_on(rt, alloc, office, &BEGINNING)?;
+    repeats(rt, alloc, office, "Send 0 ann", 1_023)?;
+    goes_on(rt, alloc, office, &MAILS)
+}
+
+fn meets_weight(rt: &impl Abort, alloc: Global, office: &mut Office) -> Result<(), Fail> {
+    goes_on(rt, alloc, office, &BEGINNING)?;
+    repeats(rt, alloc, office, "Send 65 ann", 64)?;
+    goes_on(rt, alloc, office, &WEIGHT)
+}
+
+fn meets_messages(rt: &impl Abort, alloc: Global, office: &mut Office) -> Result<(), Fail> {
+    goes_on(rt, alloc, office, &BEGINNING)?;
+    repeats(rt, alloc, office, "Send 0 news", 4_095)?;
+    repeats(rt, alloc, office, "Send 0 bob", 1_024)?;
+    goes_on(rt, alloc, office, &MESSAGES)
+}
+
+fn meets_board_weight(rt: &impl Abort, alloc: Global, office: &mut Office) -> Result<(), Fail> {
+    each(rt, alloc, office, "AddBoard b", "", 64)?;
+    fill_boards(rt, alloc, office)?;
+    goes_on(rt, alloc, office, &BOARD_WEIGHT)
+}
+
+/// Sends 16 mails of 65 lines to each of 64 boards.
+fn fill_boards(rt: &impl Abort, alloc: Global, office: &mut Office) -> Result<(), Fail> {
+    let line = with_names(alloc, "Send 65 ", "b", 64)?;
+    repeats(rt, alloc, office, &line, 16)
+}
+
+fn meets_addresses(rt: &impl Abort, alloc: Global, office: &mut Office) -> Result<(), Fail> {
+    gives(rt, alloc, office, "AddUser ann", "ok")?;
+    each(rt, alloc, office, "Take a", " ann inbox", 1_023)?;
+    goes_on(rt, alloc, office, &ADDRESSES)
 }
 
 /// Plays a line for so many names, each with a number between the two parts.
@@ -106,12 +133,22 @@ fn sends(
     count: u32,
     want: &str,
 ) -> Result<(), Fail> {
-    let mut line = String::from_str(alloc, "Send 0 ")?;
-    for place in 0..count {
-        let item = format!(in alloc; "a{place},")?;
-        line.push_str(&item)?;
-    }
+    let line = with_names(alloc, "Send 0 ", "a", count)?;
     gives(rt, alloc, office, &line, want)
+}
+
+/// A line with so many names behind its front, each with its number and a comma.
+fn with_names(alloc: Global, front: &str, name: &str, count: u32) -> Result<String, Fail> {
+    let mut line = String::from_str(alloc, front)?;
+    for place in 0..count {
+        add_name(alloc, &mut line, name, place)?;
+    }
+    Ok(line)
+}
+
+fn add_name(alloc: Global, line: &mut String, name: &str, place: u32) -> Result<(), Fail> {
+    let item = format!(in alloc; "{name}{place},")?;
+    Ok(line.push_str(&item)?)
 }
 
 const NAMES: [(&str, &str); 7] = [

@@ -3,7 +3,7 @@
 use super::words::{entry, name, number, wish};
 use crate::{Office, OfficeWish};
 use pc_base::{AskFault, Name, Names};
-use pc_message::Mails;
+use pc_message::{Mail, Mails};
 use pc_office_history::OfficeEntry;
 use std::alloc::Global;
 use std::process::Abort;
@@ -58,7 +58,12 @@ pub fn repeats(
 /// What is told of a line.
 fn tell(alloc: Global, office: &mut Office, line: &str) -> Result<String, Fail> {
     let words: Vec<&str> = line.split_whitespace().collect(alloc)?;
-    let Some((verb, words)) = words.as_slice().split_first() else {
+    tell_split(alloc, office, words.as_slice())
+}
+
+/// What is told of the words of a line.
+fn tell_split(alloc: Global, office: &mut Office, words: &[&str]) -> Result<String, Fail> {
+    let Some((verb, words)) = words.split_first() else {
         return Err("a word")?;
     };
     match wish(alloc, verb, words)? {
@@ -156,22 +161,32 @@ fn board(alloc: Global, office: &Office, board: &Name) -> Result<String, Fail> {
 fn names(alloc: Global, names: &Names) -> Result<String, Fail> {
     let mut told = String::new(alloc);
     for name in names.as_slice() {
-        told.push_str(str::from_utf8(name.bytes())?)?;
-        told.push(' ')?;
+        add_name(&mut told, name)?;
     }
     Ok(told)
+}
+
+fn add_name(told: &mut String, name: &Name) -> Result<(), Fail> {
+    told.push_str(str::from_utf8(name.bytes())?)?;
+    Ok(told.push(' ')?)
 }
 
 /// The number of each mail and its mailbox, with spaces between them.
 fn mails(alloc: Global, mails: &Mails) -> Result<String, Fail> {
     let mut told = String::new(alloc);
     for mail in mails.as_slice() {
-        let number = format!(in alloc; "{} ", mail.number)?;
-        told.push_str(&number)?;
-        told.push_str(str::from_utf8(mail.mailbox.bytes())?)?;
-        told.push(' ')?;
+        add_mail(alloc, &mut told, mail)?;
     }
     Ok(told)
+}
+
+fn add_mail(alloc: Global, told: &mut String, mail: &Mail) -> Result<(), Fail> {
+    let item = format!(in alloc;
+        "{} {} ",
+        mail.number,
+        str::from_utf8(mail.mailbox.bytes())?
+    )?;
+    Ok(told.push_str(&item)?)
 }
 
 fn text_of_fault(alloc: Global, fault: &AskFault) -> Result<String, Fail> {

@@ -4,26 +4,58 @@ use super::player::goes_on;
 use crate::Office;
 use pc_base::{Bytes, ReadFault};
 use std::alloc::Global;
+use std::process::Abort;
 use std::test::Fail;
 
 #[test]
 fn goes_on_where_it_was_saved(rt: HostRuntime) -> Result<(), Fail> {
-    let mut office = Office::empty(rt.alloc())?;
-    goes_on(&rt, rt.alloc(), &mut office, &BEFORE)?;
-    let mut loaded = saved(rt.alloc(), &office)?;
+    let mut loaded = saved_behind(&rt, rt.alloc())?;
     goes_on(&rt, rt.alloc(), &mut loaded, &BEHIND)
+}
+
+/// What is loaded again of the office that has gone so far.
+fn saved_behind(rt: &impl Abort, alloc: Global) -> Result<Office, Fail> {
+    let mut office = Office::empty(alloc)?;
+    goes_on(rt, alloc, &mut office, &BEFORE)?;
+    saved(alloc, &office)
 }
 
 #[test]
 fn new_office_has_eighteen_bytes(rt: HostRuntime) -> Result<(), Fail> {
-    let office = Office::empty(rt.alloc())?;
-    let mut bytes = Bytes::new(rt.alloc());
+    is_saved_so(&rt, rt.alloc(), &[0; 18])?;
+    for (bytes, place) in &PLACES {
+        stops(&rt, rt.alloc(), bytes, *place)?;
+    }
+    Ok(())
+}
+
+/// Bytes, and where they stop being a record.
+static PLACES: [(&[u8], Option<u64>); 4] = [
+    (&[0; 18], None),
+    (&[0; 17], Some(14)),
+    (&[0; 19], Some(18)),
+    (&[1; 2], Some(0)),
+];
+
+/// Looks whether a new office is saved so.
+fn is_saved_so(rt: &impl Abort, alloc: Global, want: &[u8]) -> Result<(), Fail> {
+    let bytes = saved_bytes(alloc)?;
+    assert_eq!(rt; bytes.as_slice(), want);
+    Ok(())
+}
+
+/// What is saved of a new office.
+fn saved_bytes(alloc: Global) -> Result<Bytes, Fail> {
+    let office = Office::empty(alloc)?;
+    let mut bytes = Bytes::new(alloc);
     office.save(&mut bytes)?;
-    assert_eq!(rt; bytes.as_slice(), [0; 18].as_slice());
-    assert_eq!(rt; place_of(rt.alloc(), &[0; 18])?, None);
-    assert_eq!(rt; place_of(rt.alloc(), &[0; 17])?, Some(14));
-    assert_eq!(rt; place_of(rt.alloc(), &[0; 19])?, Some(18));
-    assert_eq!(rt; place_of(rt.alloc(), &[1; 2])?, Some(0));
+    Ok(bytes)
+}
+
+/// Looks whether the bytes stop being a record at this place; nothing where they are one.
+fn stops(rt: &impl Abort, alloc: Global, bytes: &[u8], want: Option<u64>) -> Result<(), Fail> {
+    let place = place_of(alloc, bytes)?;
+    assert_eq!(rt; place, want, "{bytes:?}");
     Ok(())
 }
 
